@@ -1,0 +1,4 @@
+pub mod Results
+pub mod Sums
+pub mod Differences
+pub mod Shifts

@@ -1,0 +1,12 @@
+pub mod Operands
+pub mod Spells
+pub mod Canonical
+pub mod Reading
+pub mod Prefixes
+pub mod Opcodes
+pub mod Instructions
+pub mod Wide
+pub mod Act
+pub mod Meaning
+pub mod System
+pub mod Step

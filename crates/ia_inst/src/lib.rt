@@ -1,0 +1,11 @@
+//! Instructions of the guest: their type, their spellings and their effects.
+#![tactic(auto)]
+
+mod inst;
+mod opcode;
+mod prefixes;
+
+pub use br_word::{Flags, GuestFault, Perms, ShiftOp, Width};
+pub use inst::{Addr, Count, Inst, Rm, Src};
+pub use opcode::{Binary, By, Constant, Opcode, Second, Simple};
+pub use prefixes::{Prefix, Prefixes};

@@ -1,0 +1,32 @@
+//! What may stand before an opcode, as a reader from left to right sees it (SDM volume 2, 2.1.1).
+
+/// A byte that may stand before an opcode.
+#[derive(Clone, Copy, Debug, PartialEq, Eq)]
+pub enum Prefix {
+    /// 66
+    Size,
+    /// F3
+    Repeat,
+    /// 2E
+    Code,
+    /// 3E
+    Branch,
+}
+
+/// What stands before an opcode.
+#[derive(Clone, Copy, Debug, PartialEq, Eq)]
+pub enum Prefixes {
+    Bare,
+    /// One 66.
+    Size,
+    /// One F3.
+    Repeat,
+    /// One 66 and one F3, in either order.
+    SizeRepeat,
+    /// One 3E.
+    Branch,
+    /// Any other list of 66 and 2E, and whether there is a 66.
+    Padding { wide: bool },
+    /// What stands before no opcode.
+    Other,
+}
