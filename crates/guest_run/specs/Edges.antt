@@ -1,0 +1,45 @@
+-- The control-flow edges of a run: the address of each transfer and the address to which it led.
+use Rattle.std.specs.Prelude.{ℕ, zero, suc, Bool, true, false, List, [], ◌∷◌, ◌++◌}
+use Rattle.ia_inst.specs.declared.inst.Inst.{Inst}
+use Rattle.ia_inst.specs.declared.inst.Inst.TheVariants.{Jcc, Jmp, JmpRm, Call, CallRm, Ret}
+use Rattle.br_word.specs.State.{State, Stop, Running, Exited, Faulted}
+use Rattle.ia_inst.specs.Step.{Found, NoCode, NoInst, There, found, step_way, step}
+use Rattle.ia_inst.specs.System.{Way, On, Bad}
+use Rattle.guest_run.specs.Opening.{guest_of, opening_of}
+
+abbrev pub is_transfer : Inst → Bool
+is_transfer (Jcc c rel) = true
+is_transfer (Jmp rel) = true
+is_transfer (JmpRm target) = true
+is_transfer (Call rel) = true
+is_transfer (CallRm target) = true
+is_transfer (Ret pop) = true
+is_transfer i = false
+
+abbrev pub Edge : Type 0
+Edge = ℕ × ℕ
+
+-- a step that faults gives no edge
+abbrev pub edge_by : Bool → Way → ℕ → List Edge
+edge_by true (On t) site = (site, t.eip) ∷ []
+edge_by true (Bad f) site = []
+edge_by false w site = []
+
+abbrev pub edge_at : Found → State → ℕ → List Edge
+edge_at NoCode s c = []
+edge_at NoInst s c = []
+edge_at (There i n) s c = edge_by (is_transfer i) (step_way s c) s.eip
+
+-- the edge of the next step under a choice, if it has one
+abbrev pub edge_of : Stop → State → ℕ → List Edge
+edge_of Running s c = edge_at (found s.eip s.regions) s c
+edge_of (Exited n) s c = []
+edge_of (Faulted f) s c = []
+
+abbrev pub edges_from : ℕ → State → List Edge
+edges_from zero s = []
+edges_from (suc n) s = edge_of s.stop s 0 ++ edges_from n (step s 0)
+
+-- the edges of the first n steps of a file; the pair of 0 and the entry says that a run began
+abbrev pub edges_of : List ℕ → List (List ℕ) → List ℕ → ℕ → List Edge
+edges_of file words input n = (0, (guest_of file).entry) ∷ edges_from n (opening_of file words input)

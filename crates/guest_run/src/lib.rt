@@ -1,0 +1,2 @@
+//! Bounded runs of a guest.
+#![tactic(auto)]

@@ -1,0 +1,2 @@
+pub mod Preserves
+pub mod Covers
