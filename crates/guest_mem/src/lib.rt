@@ -1,0 +1,2 @@
+//! The memory of a guest: its regions with their permissions, and the accesses to them.
+#![tactic(auto)]
