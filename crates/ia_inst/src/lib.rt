@@ -4,8 +4,10 @@
 mod inst;
 mod opcode;
 mod prefixes;
+mod validity;
 
 pub use br_word::{Flags, GuestFault, Perms, ShiftOp, Width};
 pub use inst::{Addr, Count, Inst, Rm, Src};
 pub use opcode::{Binary, By, Constant, Opcode, Second, Simple};
 pub use prefixes::{Prefix, Prefixes};
+pub use validity::{canonical_spelling, valid};
