@@ -34,7 +34,7 @@ pub enum BuildError {
 
 impl From<AllocError> for BuildError {
     ghost use Rattle.std.specs.Prelude.{◌≡◌};
-    ghost use Rattle.build_core.specs.declared.build.BuildError.TheVariants.{Memory};
+    ghost use Rattle.build_core.specs.declared.image.BuildError.TheVariants.{Memory};
 
     ghost from_gives = { λ _ e. e ≡ Memory };
 
@@ -44,6 +44,7 @@ impl From<AllocError> for BuildError {
 }
 
 /// The jump from the start of the code to the original's entry.
+#[tactic(auto, unfolding(br_word::specs::Memory::bytes_of))]
 fn jump_to(entry: u32) -> [u8; 5]
     ensures { result ≡ jump_code entry }
 {
