@@ -33,6 +33,7 @@ pub struct Memory {
 }
 
 impl Model for Memory {
+    ghost use Rattle.std.specs.Prelude.{◌<◌, length};
     ghost use Rattle.guest_mem.specs.View.{MemoryView};
     ghost use Rattle.guest_mem.specs.Layout.{IsHeapLast};
 
@@ -40,7 +41,7 @@ impl Model for Memory {
 
     ghost view = { λ m. record { regions = m.areas.items; brk_start = m.brk_start; brk = m.brk } };
 
-    ghost invariant = { λ m. IsHeapLast m.brk_start m.areas.items };
+    ghost invariant = { λ m. (0 < length m.areas.items) × IsHeapLast m.brk_start m.areas.items };
 }
 
 impl Memory {
