@@ -1,0 +1,48 @@
+-- The heap is the last region.
+use Rattle.std.proofs.Common.{◌≡◌, ◌≢◌, ℕ, zero, suc, ◌+◌, ◌-◌, ◌<◌, ◌≤◌, Bool, true, false, List, [], ◌∷◌, ◌++◌, length, take, get_or, set, refl, sym, ◌∙◌, ap, arith, length-set, length-append, length-map}
+use Rattle.std.specs.Prelude.{map, nat_eq, if◌then◌else◌}
+use Rattle.std.proofs.lemmas.Bool.Decides.{nat_tests}
+use Rattle.br_word.specs.Memory.{Region, resized, zeros}
+use Rattle.elf_read.specs.declared.exe.Segment.{Segment}
+use Rattle.elf_read.specs.declared.exe.Exe.{Exe}
+use Rattle.elf_read.specs.Elf.{IsSegment, AreSegments, Ascend, end_of_last, round_up, IsGuest}
+use Rattle.guest_mem.specs.Regions.{region_of, stack_region, heap_region, opening_regions}
+use Rattle.guest_mem.specs.Layout.{IsHeapLast}
+
+-- a region changes and stays where it is
+pub IsHeapLast-set : (start : ℕ) (rs : List Region) (i : ℕ) (r x : Region) → IsHeapLast start rs → r ≡ get_or rs i r → x.start ≡ r.start → IsHeapLast start (set rs i x)
+IsHeapLast-set start [] i r x h g e = tt
+IsHeapLast-set start (s ∷ rs) zero r x h g e = (ap (λ n. nat_eq n start) (e ∙ ap (λ (t : Region). t.start) g) ∙ h.0, h.1)
+IsHeapLast-set start (s ∷ rs) (suc i) r x h g e =
+    (h.0 ∙ ap (λ n. nat_eq n 0) (sym (length-set rs i x)), IsHeapLast-set start rs i r x h.1 g e)
+
+not_equal : (n m : ℕ) → n ≢ m → nat_eq n m ≡ false
+not_equal n m h = grind (arith, nat_tests)
+
+equal : (n m : ℕ) → n ≡ m → nat_eq n m ≡ true
+equal n m h = grind (arith, nat_tests)
+
+-- only the last region is cut or filled up
+pub map-resized : (start size : ℕ) (rs : List Region) (i : ℕ) (r : Region) → IsHeapLast start rs → i + 1 ≡ length rs → r ≡ get_or rs i r → map (resized start size) rs ≡ set rs i (record r { bytes = take size (r.bytes ++ zeros size) })
+map-resized start size [] i r h e g = absurd (omega arith)
+map-resized start size (s ∷ []) zero r h e g =
+    ap (λ b. (if b then record s { bytes = take size (s.bytes ++ zeros size) } else s) ∷ []) (h.0 ∙ refl)
+    ∙ ap (λ (t : Region). record t { bytes = take size (t.bytes ++ zeros size) } ∷ []) (sym g)
+map-resized start size (s ∷ []) (suc i) r h e g = absurd (omega arith)
+map-resized start size (s ∷ t ∷ rs) zero r h e g = absurd (omega arith)
+map-resized start size (s ∷ t ∷ rs) (suc i) r h e g =
+    ap (λ b. (if b then record s { bytes = take size (s.bytes ++ zeros size) } else s) ∷ map (resized start size) (t ∷ rs)) (h.0 ∙ not_equal (suc (length rs)) 0 (omega arith))
+    ∙ ap (λ l. s ∷ l) (map-resized start size (t ∷ rs) i r h.1 (omega arith) g)
+
+-- a segment ends at or below the end of the last one
+below_end : (low : ℕ) (s : Segment) (ss : List Segment) → AreSegments low ss → Ascend (s.start + s.size) ss → s.start + s.size ≤ end_of_last (s ∷ ss)
+below_end low s [] a o = omega arith
+below_end low s (t ∷ ss) a o = omega (arith, below_end low t ss a.1 o.1, o.0, a.0.some)
+
+at_opening : (low end start : ℕ) (top : List ℕ) (ss : List Segment) → AreSegments low ss → Ascend end ss → end_of_last ss ≤ start → start < 0xBFF00000 → IsHeapLast start (map region_of ss ++ (stack_region top ∷ heap_region start ∷ []))
+at_opening low end start top [] a o h l = (not_equal 0xBFF00000 start (omega arith), (equal start start refl, tt))
+at_opening low end start top (s ∷ []) a o h l =
+    (not_equal s.start start (omega (arith, a.0.some)), (not_equal 0xBFF00000 start (omega arith), (equal start start refl, tt)))
+at_opening low end start top (s ∷ t ∷ ss) a o h l =
+    let e : s.start + s.size ≤ end_of_last (s ∷ t ∷ ss) = below_end low s (t ∷ ss) a.1 o.1 in
+    (not_equal s.start start (omega (arith, a.0.some)) ∙ sym (not_equal (length (map region_of (t ∷ ss) ++ (stack_region top ∷ heap_region start ∷ []))) 0 (omega arith)), at_opening low (s.start + s.size) start top (t ∷ ss) a.1 o.1 h l)
