@@ -29,7 +29,7 @@ impl Failing {
     pub fn next_fails(&mut self) -> bool
         ensures listed { IsTrue result ↔ NextFails self.old }
         ensures counted { self.new ≡ after_call self.old result }
-        ensures bounded { self.new.faults < 2 ^ 64 }
+        ensures bounded { self.old.faults < 2 ^ 64 }
     {
         self.calls = self.calls.saturating_add(1);
         let listed = match u32::try_from(self.calls) {
@@ -43,7 +43,7 @@ impl Failing {
     /// Counts a fault of another cause.
     pub fn count_fault(&mut self)
         ensures counted { self.new ≡ after_fault self.old }
-        ensures bounded { self.new.faults < 2 ^ 64 }
+        ensures bounded { self.old.faults < 2 ^ 64 }
     {
         self.faults = self.faults.saturating_add(1);
     }
