@@ -1,5 +1,6 @@
 //! What the calls of the outside answer where they do not succeed.
 
+use std::alloc::AllocError;
 use thiserror::Error;
 
 /// Why a fetch gives no content.
@@ -16,6 +17,17 @@ pub enum ShelfError {
     Memory,
 }
 
+impl From<AllocError> for ShelfError {
+    ghost use Rattle.std.specs.Prelude.{◌≡◌};
+    ghost use Rattle.br_outside.specs.declared.errors.ShelfError.TheVariants.{Memory};
+
+    ghost from_gives = { λ _ error. error ≡ Memory };
+
+    fn from(_error: AllocError) -> ShelfError {
+        ShelfError::Memory
+    }
+}
+
 /// Why a store did not put the content under the name.
 #[derive(Clone, Copy, Debug, PartialEq, Eq, Error)]
 pub enum StoreError {
@@ -27,6 +39,17 @@ pub enum StoreError {
     Memory,
 }
 
+impl From<AllocError> for StoreError {
+    ghost use Rattle.std.specs.Prelude.{◌≡◌};
+    ghost use Rattle.br_outside.specs.declared.errors.StoreError.TheVariants.{Memory};
+
+    ghost from_gives = { λ _ error. error ≡ Memory };
+
+    fn from(_error: AllocError) -> StoreError {
+        StoreError::Memory
+    }
+}
+
 /// Why a give did not append the whole piece.
 #[derive(Clone, Copy, Debug, PartialEq, Eq, Error)]
 pub enum SinkError {
@@ -36,6 +59,17 @@ pub enum SinkError {
     /// There is no memory for the piece: nothing was written.
     #[error("out of memory")]
     Memory,
+}
+
+impl From<AllocError> for SinkError {
+    ghost use Rattle.std.specs.Prelude.{◌≡◌};
+    ghost use Rattle.br_outside.specs.declared.errors.SinkError.TheVariants.{Memory};
+
+    ghost from_gives = { λ _ error. error ≡ Memory };
+
+    fn from(_error: AllocError) -> SinkError {
+        SinkError::Memory
+    }
 }
 
 /// A take failed: nothing was taken.

@@ -46,7 +46,7 @@ pub fn copy_of(
     if bytes.len() > limit as usize {
         return Err(ShelfError::TooLong);
     }
-    bytes.to_vec(alloc).map_err(|_| ShelfError::Memory)
+    Ok(bytes.to_vec(alloc)?)
 }
 
 /// Makes the bytes the content of the name: in its first pair, or in a new one at the end. Without memory all stays.

@@ -53,7 +53,8 @@ impl Sink for MemSink {
         if self.failing.next_fails() {
             return Err(SinkError::Failed);
         }
-        self.bytes.extend_from_slice(piece).map_err(|_| SinkError::Memory)
+        self.bytes.extend_from_slice(piece)?;
+        Ok(())
     }
 }
 
@@ -87,6 +88,7 @@ impl Sink for CalmSink {
     ghost seen = { calm_sink_view };
 
     fn give(&mut self, piece: &[u8]) -> Result<(), SinkError> {
-        self.bytes.extend_from_slice(piece).map_err(|_| SinkError::Memory)
+        self.bytes.extend_from_slice(piece)?;
+        Ok(())
     }
 }
