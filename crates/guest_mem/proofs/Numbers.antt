@@ -1,8 +1,8 @@
 -- Numbers in bytes, and lists of bytes that are cut or filled up.
-use Rattle.std.proofs.Common.{◌≡◌, ℕ, zero, suc, ◌+◌, ◌-◌, ◌*◌, ◌<◌, ◌≤◌, List, [], ◌∷◌, ◌++◌, length, take, drop, get_or, refl, sym, ◌∙◌, ap, arith, length-append, append_assoc}
+use Rattle.std.proofs.Common.{◌≡◌, ℕ, zero, suc, ◌+◌, ◌-◌, ◌*◌, ◌<◌, ◌≤◌, List, [], ◌∷◌, ◌++◌, length, take, drop, get_or, refl, sym, ◌∙◌, ap, arith, length-take, length-drop}
 use Rattle.std.specs.Prelude.{replicate, min}
 use Rattle.std.specs.Int.{bytes_low_first}
-use Rattle.std.proofs.lemmas.List.{drop_more, take_all, take-append-le, take_at, length-replicate}
+use Rattle.std.proofs.lemmas.List.{drop_more, take_all, length-replicate, take-replicate, take_min, length-take-le}
 use Rattle.br_word.specs.declared.types.Width.{Width}
 use Rattle.br_word.specs.declared.types.Width.TheVariants.{B8, B16, B32}
 use Rattle.br_word.specs.Words.{size_of}
@@ -44,14 +44,31 @@ unfolding zeros
 length-zeros n = length-replicate n 0
 
 -- a list that is cut at a size, or filled up to it
+take-fill : (size n : ℕ) (bs : List ℕ) → size ≤ length bs + n → take size bs ++ replicate (size - length bs) 0 ≡ take size (bs ++ replicate n 0)
+take-fill zero n bs h = ap (λ k. replicate k 0) (let e : 0 - length bs ≡ 0 = omega arith in e)
+take-fill (suc size) n [] h =
+    ap (λ k. replicate k 0) (let e : suc size - 0 ≡ suc size = omega arith in e) ∙ sym (take-replicate (suc size) n 0 (omega arith))
+take-fill (suc size) n (b ∷ bs) h =
+    ap (λ k. b ∷ (take size bs ++ replicate k 0)) (let e : suc size - suc (length bs) ≡ size - length bs = omega arith in e)
+    ∙ ap (λ s. b ∷ s) (take-fill size n bs (omega arith))
+
 pub take-zeros : (size : ℕ) (bs : List ℕ) → take size bs ++ replicate (size - length bs) 0 ≡ take size (bs ++ zeros size)
 unfolding zeros
-take-zeros size bs = go size bs size (omega arith)
-  where
-    go : (size : ℕ) (bs : List ℕ) (n : ℕ) → size ≤ n → take size bs ++ replicate (size - length bs) 0 ≡ take size (bs ++ replicate n 0)
-    go size bs n h = ?
+take-zeros size bs = take-fill size size bs (omega arith)
 
 -- a segment is filled up with zeros
 pub take-filled : (size : ℕ) (bs : List ℕ) → length bs ≤ size → take size (bs ++ zeros size) ≡ bs ++ zeros (size - length bs)
 unfolding zeros
 take-filled size bs h = sym (take-zeros size bs) ∙ ap (λ s. s ++ replicate (size - length bs) 0) (take_all size bs h)
+
+pub take-own_zeros : (n : ℕ) → take n (zeros n) ≡ zeros n
+take-own_zeros n = take_all n (zeros n) (omega (arith, length-zeros n))
+
+-- what is fetched, of l bytes that are left
+pub length-fetched : (bs : List ℕ) (k l n : ℕ) → l ≡ length bs - k → n ≡ min l 15 → n ≡ length (take {A = ℕ} 15 (drop k bs))
+length-fetched bs k l n e h = omega (arith, length-take 15 (drop k bs), length-drop k bs)
+
+pub take-fetched : (bs into : List ℕ) (k l n : ℕ) → l ≡ length bs - k → n ≡ min l 15 → length into ≡ 15 → take (length (take n into)) (drop k bs) ≡ take {A = ℕ} 15 (drop k bs)
+take-fetched bs into k l n e h t =
+    let count : length (take n into) ≡ min 15 (length (drop k bs)) = omega (arith, length-take n into, length-drop k bs) in
+    ap (λ j. take j (drop k bs)) count ∙ take_min 15 (drop k bs)

@@ -1,4 +1,4 @@
-use Rattle.std.proofs.Common.{sym, ◌∙◌, ap, length, set}
+use Rattle.std.proofs.Common.{sym, ◌∙◌, ap, length, set, arith, length-set}
 use Rattle.std.specs.Prelude.{is_some}
 use Rattle.br_word.specs.Memory.{Writes, Region}
 use Rattle.guest_mem.specs.View.{MemoryView, with_regions}
@@ -13,7 +13,7 @@ copy_in-requires c =
 
 pub invariant_of-self : goal.invariant_of-self
 invariant_of-self c =
-    (?, IsHeapLast-set c.self.inside.brk_start c.self.inside.areas.items c.in-Some.place c.index_mut.result.now c.copy_in.new.self c.self.invariant.1 c.index_mut.ensures.value (ap (λ (r : Region). r.start) c.copy_in.ensures))
+    (omega (arith, length-set c.self.inside.areas.items c.in-Some.place c.copy_in.new.self, c.self.invariant.0), IsHeapLast-set c.self.inside.brk_start c.self.inside.areas.items c.in-Some.place c.index_mut.result.now c.copy_in.new.self c.self.invariant.1 c.index_mut.ensures.value (ap (λ (r : Region). r.start) c.copy_in.ensures))
 
 pub returns-in-None-clause-allowed : goal.returns-in-None-clause-allowed
 returns-in-None-clause-allowed c =
