@@ -1,2 +1,3 @@
 pub mod Access
-pub mod Done
+pub mod Puts
+pub mod Given

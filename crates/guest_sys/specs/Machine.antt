@@ -3,8 +3,8 @@ use Rattle.std.specs.Prelude.{ℕ, List, []}
 use Rattle.br_word.specs.State.{State, Running}
 use Rattle.br_outside.specs.Outside.{StreamView}
 use Rattle.guest_mem.specs.View.{MemoryView}
-use Rattle.ia_meaning.specs.declared.types.Cpu.{Cpu}
-use Rattle.ia_meaning.specs.Words.{view}
+use Rattle.ia_meaning.specs.declared.cpu.Cpu.{Cpu}
+use Rattle.ia_meaning.specs.Effect.{view}
 use Rattle.guest_sys.specs.Streams.{Streams}
 
 pub record Machine : Type 0 where

@@ -3,7 +3,7 @@ use Rattle.std.specs.Prelude.{get_or, set, ◌≡◌, ◌≢◌, ℕ, ◌<◌, �
 use Rattle.br_word.specs.Memory.{Region, Writes, bytes_at}
 use Rattle.br_outside.specs.Outside.{StreamView}
 use Rattle.guest_mem.specs.View.{MemoryView}
-use Rattle.ia_meaning.specs.declared.types.Cpu.{Cpu}
+use Rattle.ia_meaning.specs.declared.cpu.Cpu.{Cpu}
 use Rattle.br_word.specs.declared.types.GuestFault.TheVariants.{Access}
 use Rattle.guest_sys.specs.declared.answers.Called.{Called}
 use Rattle.guest_sys.specs.declared.answers.Called.TheVariants.{Goes, Fault}

@@ -1,12 +1,12 @@
 //! Buffers of a call in the memory of a guest.
-ghost use Rattle.std.specs.Prelude.{length, ◌^◌, ◌≡◌, ◌≢◌, ◌+◌, ◌<◌, ◌≤◌, None};
-ghost use Rattle.br_word.specs.Memory.{bytes_at, Writes};
+ghost use Rattle.std.specs.Prelude.{length, ◌^◌, ◌≡◌, ◌≢◌, ◌+◌, ◌<◌, ◌≤◌, None, Some, IfOk, true, is_some, vec_len};
+ghost use Rattle.br_word.specs.Memory.{bytes_at, Reads, Writes};
 ghost use Rattle.ia_inst.specs.System.{buffer, filled};
 ghost use Rattle.guest_sys.specs.Parts.{IsWanted, Puts, GivesBuffer};
 
 use br_outside::{Sink, SinkError};
 use guest_mem::Memory;
-use std::alloc::Global;
+use std::alloc::{AllocError, Global};
 
 /// How many bytes can be written at an address, `len` of them at most.
 fn writable_front(m: &Memory, at: u32, len: u32) -> u32
@@ -54,6 +54,19 @@ pub fn put(m: &mut Memory, at: u32, bytes: &[u8]) -> bool
     true
 }
 
+/// The bytes of a buffer that may be read.
+fn bytes_of_buffer(alloc: Global, m: &Memory, at: u32, len: u32) -> Result<Vec<u8>, AllocError>
+    requires some { 0 < len }
+    requires readable { is_some (bytes_at Reads at len m.now.regions) ≡ true }
+    ensures bytes { IfOk result (λ v. buffer at len m.now.regions ≡ Some v.items) }
+    ensures len { IfOk result (λ v. vec_len v ≡ len) }
+{
+    let mut bytes = Vec::new(alloc);
+    bytes.resize(len as usize, 0u8)?;
+    m.copy_out(at, bytes.as_mut_slice());
+    Ok(bytes)
+}
+
 /// Gives the bytes of a buffer to a sink, and answers whether memory allows that they are read. For
 /// no bytes the sink is not called.
 pub fn give_buffer<S: Sink>(
@@ -71,11 +84,11 @@ pub fn give_buffer<S: Sink>(
     if !m.can_read(at, len) {
         return Ok(false);
     }
-    let mut bytes = Vec::new(alloc);
-    if bytes.resize(len as usize, 0u8).is_err() {
+    let Ok(bytes) = bytes_of_buffer(alloc, m, at, len) else {
         return Err(SinkError::Memory);
+    };
+    match sink.give(bytes.as_slice()) {
+        Ok(()) => Ok(true),
+        Err(error) => Err(error),
     }
-    m.copy_out(at, &mut bytes);
-    sink.give(&bytes)?;
-    Ok(true)
 }

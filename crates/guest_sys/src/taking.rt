@@ -46,7 +46,7 @@ pub fn take_up_to<I: Source>(
     while bytes.len() < most {
         let room = (most - bytes.len()).min(PIECE);
         if !take_piece(input, &mut bytes, room)? {
-            break;
+            return Ok(bytes);
         }
     }
     Ok(bytes)
