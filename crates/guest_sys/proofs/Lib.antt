@@ -1,3 +1,3 @@
 pub mod Access
 pub mod Puts
-pub mod Given
+pub mod Taken

@@ -1,5 +1,5 @@
 -- What the parts of a call do: bytes taken from a source, put into memory, and given to a sink.
-use Rattle.std.specs.Prelude.{get_or, set, ◌≡◌, ◌≢◌, ℕ, ◌<◌, ◌≤◌, Bool, true, false, List, [], ◌++◌, length, take, drop, Option, Some, None, IfSome, Result, Ok, Err}
+use Rattle.std.specs.Prelude.{◌+◌, get_or, set, ◌≡◌, ◌≢◌, ℕ, ◌<◌, ◌≤◌, Bool, true, false, List, [], ◌++◌, length, take, drop, Option, Some, None, IfSome, Result, Ok, Err}
 use Rattle.br_word.specs.Memory.{Region, Writes, bytes_at}
 use Rattle.br_outside.specs.Outside.{StreamView}
 use Rattle.guest_mem.specs.View.{MemoryView}
@@ -18,11 +18,15 @@ use Rattle.guest_sys.specs.Streams.{Steady, Fails, Tells, HasLeft, WasGiven, Lea
 abbrev pub TakesPiece : List ℕ → StreamView → StreamView → Type 0
 TakesPiece piece old new = IfSome old.bytes (λ left. (left ≡ piece ++ drop (length piece) left) × (new.bytes ≡ Some (drop (length piece) left)) × (piece ≡ [] → left ≡ []))
 
+-- a source that told has lost so many bytes
+abbrev pub HasTakenMore : ℕ → StreamView → StreamView → Type 0
+HasTakenMore n old new = IfSome old.bytes (λ left. new.bytes ≡ Some (drop n left))
+
 -- the list has grown by a piece, or the source failed, or memory ran out
 abbrev pub AddsPiece : ℕ → Result Bool SysError → List ℕ → List ℕ → StreamView → StreamView → Type 0
 AddsPiece room (Ok more) before after old new = (piece : List ℕ) × (after ≡ before ++ piece) × (length piece ≤ room) × (more ≡ true → 0 < length piece) × (more ≡ false → piece ≡ []) × TakesPiece piece old new × Steady old new
 AddsPiece room (Err Input) before after old new = (new.bytes ≡ old.bytes) × Fails old new
-AddsPiece room (Err Memory) before after old new = new ≡ old
+AddsPiece room (Err Memory) before after old new = (n : ℕ) × (n ≤ room) × HasTakenMore n old new × Steady old new
 AddsPiece room (Err e) before after old new = ⊥
 
 -- the first bytes that are left, so many of them or all, and the rest left
@@ -40,7 +44,7 @@ pub record TakesSome (most : ℕ) (left : List ℕ) (old new : StreamView) : Typ
 abbrev pub TakeGives : ℕ → List ℕ → Result (List ℕ) SysError → StreamView → StreamView → Type 0
 TakeGives most left (Ok bytes) old new = TakesAll most bytes left old new
 TakeGives most left (Err Input) old new = TakesSome most left old new × Fails old new
-TakeGives most left (Err Memory) old new = TakesSome most left old new × Steady old new
+TakeGives most left (Err Memory) old new = TakesSome (most + 1) left old new × Steady old new
 TakeGives most left (Err e) old new = ⊥
 
 pub record Takes (most : ℕ) (result : Result (List ℕ) SysError) (old new : StreamView) : Type 0 where

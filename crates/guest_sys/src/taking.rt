@@ -8,7 +8,7 @@ use br_outside::{Failed, Source};
 use std::alloc::Global;
 
 /// How many bytes are taken at once, at most.
-const PIECE: usize = 65536;
+const PIECE: usize = 4096;
 
 /// Takes a piece of at most `room` bytes behind the others, and answers whether there was one.
 fn take_piece<I: Source>(
@@ -17,17 +17,16 @@ fn take_piece<I: Source>(
     room: usize,
 ) -> Result<bool, SysError>
     requires some { 0 < room }
-    requires fits { vec_len bytes.old + room < 2 ^ 32 }
+    requires fits { room ≤ PIECE }
     ensures { AddsPiece room result bytes.old.items bytes.new.items (I.seen input.old) (I.seen input.new) }
 {
-    let start = bytes.len();
-    if bytes.resize(start + room, 0).is_err() {
-        return Err(SysError::Memory);
-    }
-    match input.take(&mut bytes[start..]) {
+    let mut piece = [0u8; PIECE];
+    match input.take(&mut piece[..room]) {
         Err(Failed) => Err(SysError::Input),
         Ok(count) => {
-            bytes.truncate(start + count);
+            if bytes.extend_from_slice(&piece[..count]).is_err() {
+                return Err(SysError::Memory);
+            }
             Ok(count > 0)
         }
     }
@@ -41,12 +40,14 @@ pub fn take_up_to<I: Source>(
 ) -> Result<Vec<u8>, SysError>
     ensures { Takes most (result_map_both (λ v. v.items) (λ e. e) result) (I.seen input.old) (I.seen input.new) }
 {
-    let most = most as usize;
+    let wanted = most as usize;
     let mut bytes = Vec::new(alloc);
-    while bytes.len() < most {
-        let room = (most - bytes.len()).min(PIECE);
-        if !take_piece(input, &mut bytes, room)? {
-            return Ok(bytes);
+    while bytes.len() < wanted {
+        let room = (wanted - bytes.len()).min(PIECE);
+        match take_piece(input, &mut bytes, room) {
+            Err(error) => return Err(error),
+            Ok(false) => return Ok(bytes),
+            Ok(true) => {}
         }
     }
     Ok(bytes)
