@@ -202,7 +202,7 @@ too_many : (at len most : ℕ) (bytes left : List ℕ) (rs : List Region) → Is
 too_many at len most bytes left rs w first f =
     let n = not_filled at bytes rs f in
     let le : length bytes ≤ length (take len left) = omega (arith, ap length first, length-take most left, length-take len left, w.within) in
-    filled_not at (take len left) rs (omega (arith, n.0)) (denied_more Writes (length bytes) (length (take len left)) rs le n.1)
+    filled_not at (take len left) rs (omega (arith, n.0)) (denied_more Writes at (length bytes) (length (take len left)) rs le n.1)
 
 fit : (at len most : ℕ) (bytes left : List ℕ) (rs : List Region) → IsWanted at len rs most → bytes ≡ take most left → (k : ℕ) → k < length bytes → IsSome (filled at (take k left) rs)
 fit at len most bytes left rs w first k lt =
@@ -273,3 +273,16 @@ read_fails u m i j o e most Memory h g w t = calls_by _ _ _ t.left _ t.told refl
 })
 read_fails u m i j o e most Out h g w t = absurd t.gives
 read_fails u m i j o e most Report h g w t = absurd t.gives
+
+pub faults_as : (called fault : Called) (u : Cpu) (m n : MemoryView) (old : Machine) (i o e : StreamView) → called ≡ fault → n ≡ m
+  → Calls (Ok fault) old (machine u m i o e) → Calls (Ok called) old (machine u n i o e)
+faults_as called fault u m n old i o e a b h =
+    let P : Called → Type 0 = λ called. Calls (Ok called) old (machine u m i o e) in
+    let Q : MemoryView → Type 0 = λ n. Calls (Ok called) old (machine u n i o e) in
+    subst Q (sym b) (subst P (sym a) h)
+
+pub counts_as : (called : Called) (u v : Cpu) (n : MemoryView) (old : Machine) (i o e : StreamView) (value count : ℕ) → called ≡ Goes → v ≡ with_eax value u → value ≡ count
+  → Calls (Ok Goes) old (machine (with_eax count u) n i o e) → Calls (Ok called) old (machine v n i o e)
+counts_as called u v n old i o e value count a b same h =
+    let P : ℕ → Type 0 = λ value. Calls (Ok Goes) old (machine (with_eax value u) n i o e) in
+    answers_as called u v n old i o e value a b (subst P (sym same) h)

@@ -14,7 +14,7 @@ none_is (Some x) h = absurd (cc)
 pub not_zero : (n : ℕ) → 0 < n → nat_eq n 0 ≡ false
 not_zero n h = grind (arith, nat_tests)
 
-filled_some : (at : ℕ) (bytes : List ℕ) (rs : List Region) → 0 < length bytes → filled at bytes rs ≡ written at bytes rs
+pub filled_some : (at : ℕ) (bytes : List ℕ) (rs : List Region) → 0 < length bytes → filled at bytes rs ≡ written at bytes rs
 filled_some at bytes rs h = rw (not_zero (length bytes) h) refl
 
 pub put_no : (at : ℕ) (bytes : List ℕ) (m : MemoryView) → 0 < length bytes → is_some (bytes_at Writes at (length bytes) m.regions) ≡ false → Puts (filled at bytes m.regions) false m m
@@ -56,3 +56,11 @@ buffer_some at len rs new pos h = rw (not_zero len pos) h
 
 pub buffer_none : (at len : ℕ) (rs : List Region) → 0 < len → is_some (bytes_at Reads at len rs) ≡ false → buffer at len rs ≡ None
 buffer_none at len rs pos h = rw (not_zero len pos, none_is (bytes_at Reads at len rs) h) refl
+
+pub put_false : (o : Option (List Region)) (m n : MemoryView) → Puts o false m n → (o ≡ None) × (n ≡ m)
+put_false None m n h = (refl, h.1)
+put_false (Some rs) m n h = absurd (let e : false ≡ true = h.0 in cc)
+
+pub put_true : (o : Option (List Region)) (m n : MemoryView) → Puts o true m n → (rs : List Region) × (o ≡ Some rs) × (n ≡ record m { regions = rs })
+put_true None m n h = absurd (let e : true ≡ false = h.0 in cc)
+put_true (Some rs) m n h = (rs, refl, h.1)
