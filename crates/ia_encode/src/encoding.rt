@@ -1,6 +1,9 @@
-ghost use Rattle.std.specs.Prelude.{◌≡◌, ℕ, ◌+◌, ◌<◌, ◌≤◌, List, take, IsTrue};
+//! Spellings of instructions, one row after another.
+
+ghost use Rattle.std.specs.Prelude.{◌≡◌, ℕ, ◌+◌, ◌<◌, ◌≤◌, List, ◌++◌, length, take, IsTrue};
 ghost use Rattle.ia_encode.specs.Written.{written};
 ghost use Rattle.ia_inst.specs.Spells.{Spells};
+ghost use Rattle.ia_inst.specs.Instructions.{decode_of};
 ghost use Rattle.ia_inst.specs.Canonical.{rm_valid, address_valid, imm_valid, move_valid, test_valid, is_long, source_valid, count_valid, by_valid, widens, valid_of, fits_extended, operand_bytes, alu_bytes, test_bytes, mov_bytes, step_bytes, push_bytes, pop_bytes, imul_bytes, shift_reg, shift_bytes, rotate_reg, rotate_bytes, extend_bytes, string_bytes, canonical};
 
 use crate::code::{Code, fits_signed_byte};
@@ -288,12 +291,17 @@ fn code(i: &Inst) -> Code
     }
 }
 
-/// Writes the canonical spelling, and answers its length.
+/// Writes the canonical spelling of a valid instruction, and answers its length, 1 to 15.
+///
+/// The canonical spelling is that of `docs/INSTRUCTIONS.md`. What stands in `out` behind it is left open.
 pub fn encode(i: &Inst, out: &mut [u8; 15]) -> u8
     requires { IsTrue (valid_of i.now) }
-    ensures short { result ≤ 15 }
+    ensures length { result ≡ length (canonical i.now) }
     ensures written { take result out.new ≡ canonical i.now }
     ensures spelled { Spells (take result out.new) i.now }
+
+    // It is read as the instruction, whatever bytes follow.
+    ensures read_back { (rest : List ℕ) → decode_of (take result out.new ++ rest) ≡ Some (i.now, result) }
 {
     canonical_spelling();
     let code = code(i);
