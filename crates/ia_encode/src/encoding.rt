@@ -297,6 +297,7 @@ fn code(i: &Inst) -> Code
 pub fn encode(i: &Inst, out: &mut [u8; 15]) -> u8
     requires { IsTrue (valid_of i.now) }
     ensures length { result ≡ length (canonical i.now) }
+    ensures short { result ≤ 15 }
     ensures written { take result out.new ≡ canonical i.now }
     ensures spelled { Spells (take result out.new) i.now }
 

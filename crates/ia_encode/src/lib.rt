@@ -7,3 +7,6 @@ mod laws;
 
 pub use encoding::encode;
 pub use laws::{direct_lengths, round_trip};
+
+#[cfg(test)]
+mod tests;
