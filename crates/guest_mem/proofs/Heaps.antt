@@ -18,10 +18,10 @@ IsHeapLast-set start (s ∷ rs) zero r x h g e = (ap (λ n. nat_eq n start) (e �
 IsHeapLast-set start (s ∷ rs) (suc i) r x h g e =
     (h.0 ∙ ap (λ n. nat_eq n 0) (sym (length-set rs i x)), IsHeapLast-set start rs i r x h.1 g e)
 
-not_equal : (n m : ℕ) → n ≢ m → nat_eq n m ≡ false
+pub not_equal : (n m : ℕ) → n ≢ m → nat_eq n m ≡ false
 not_equal n m h = grind (arith, nat_tests)
 
-equal : (n m : ℕ) → n ≡ m → nat_eq n m ≡ true
+pub equal : (n m : ℕ) → n ≡ m → nat_eq n m ≡ true
 equal n m h = grind (arith, nat_tests)
 
 -- only the last region is cut or filled up
@@ -43,7 +43,7 @@ segment-room low (t ∷ ss) zero s a l e = let P : Segment → Type 0 = λ u. le
 segment-room low (t ∷ ss) (suc i) s a l e = segment-room low ss i s a.1 (omega arith) e
 
 -- a segment ends at or below the end of the last one
-below_end : (low : ℕ) (s : Segment) (ss : List Segment) → AreSegments low ss → Ascend (s.start + s.size) ss → s.start + s.size ≤ end_of_last (s ∷ ss)
+pub below_end : (low : ℕ) (s : Segment) (ss : List Segment) → AreSegments low ss → Ascend (s.start + s.size) ss → s.start + s.size ≤ end_of_last (s ∷ ss)
 below_end low s [] a o = omega arith
 below_end low s (t ∷ ss) a o = omega (arith, below_end low t ss a.1 o.1, o.0, a.0.some)
 
@@ -55,7 +55,7 @@ at_opening low end start top (s ∷ t ∷ ss) a o h l =
     let e : s.start + s.size ≤ end_of_last (s ∷ t ∷ ss) = below_end low s (t ∷ ss) a.1 o.1 in
     (not_equal s.start start (omega (arith, a.0.some)) ∙ sym (not_equal (length (map region_of (t ∷ ss) ++ (stack_region top ∷ heap_region start ∷ []))) 0 (omega arith)), at_opening low (s.start + s.size) start top (t ∷ ss) a.1 o.1 h l)
 
-end_high : (low : ℕ) (ss : List Segment) → AreSegments low ss → end_of_last ss ≤ 0xA0000000
+pub end_high : (low : ℕ) (ss : List Segment) → AreSegments low ss → end_of_last ss ≤ 0xA0000000
 end_high low [] a = omega arith
 end_high low (s ∷ []) a = a.0.high
 end_high low (s ∷ t ∷ ss) a = end_high low (t ∷ ss) a.1

@@ -1,5 +1,5 @@
 -- Numbers in bytes, and lists of bytes that are cut or filled up.
-use Rattle.std.proofs.Common.{◌≡◌, ℕ, zero, suc, ◌+◌, ◌-◌, ◌*◌, ◌<◌, ◌≤◌, List, [], ◌∷◌, ◌++◌, length, take, drop, get_or, refl, sym, ◌∙◌, ap, arith, length-take, length-drop}
+use Rattle.std.proofs.Common.{◌≡◌, ℕ, zero, suc, ◌+◌, ◌-◌, ◌*◌, ◌<◌, ◌≤◌, List, [], ◌∷◌, ◌++◌, length, take, drop, get_or, refl, sym, ◌∙◌, ap, arith, length-append, length-take, length-drop}
 use Rattle.std.specs.Prelude.{replicate, min}
 use Rattle.std.specs.Int.{bytes_low_first}
 use Rattle.std.proofs.lemmas.List.{drop_more, take_all, length-replicate, take-replicate, take_min, length-take-le}
@@ -72,3 +72,6 @@ pub take-fetched : (bs into : List ℕ) (k l n : ℕ) → l ≡ length bs - k �
 take-fetched bs into k l n e h t =
     let count : length (take n into) ≡ min 15 (length (drop k bs)) = omega (arith, length-take n into, length-drop k bs) in
     ap (λ j. take j (drop k bs)) count ∙ take_min 15 (drop k bs)
+
+pub length-cut : (size : ℕ) (bs : List ℕ) → length (take size (bs ++ zeros size)) ≡ size
+length-cut size bs = omega (arith, length-take size (bs ++ zeros size), length-append bs (zeros size), length-zeros size)

@@ -8,9 +8,13 @@ use Rattle.std.proofs.lemmas.Bool.Decides.{nat_tests}
 use Rattle.br_word.specs.Memory.{Region, Use, Reads, Writes, Runs, allows, covers, bytes_at, put_over, written}
 use Rattle.guest_mem.specs.Layout.{is_usable}
 
-and_left : (a b : Bool) → (a && b) ≡ true → a ≡ true
+pub and_left : (a b : Bool) → (a && b) ≡ true → a ≡ true
 and_left true b h = refl
 and_left false b h = h
+
+pub and_right : (a b : Bool) → (a && b) ≡ true → b ≡ true
+and_right true b h = h
+and_right false b h = cc
 
 -- the record of two bounds that a covered range has
 pub covers-bounds : (r : Region) (at n : ℕ) → covers r at n ≡ true → (r.start ≤ at) × (at + n ≤ r.start + length r.bytes)
