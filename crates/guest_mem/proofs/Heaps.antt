@@ -64,9 +64,10 @@ end_high low (s ∷ t ∷ ss) a = end_high low (t ∷ ss) a.1
 pub IsHeapLast-opening : (exe : Exe) (top : List ℕ) → IsGuest exe → (0 < length (opening_regions exe top)) × IsHeapLast exe.brk_start (opening_regions exe top)
 IsHeapLast-opening exe top g =
     let high : end_of_last exe.segments ≤ 0xA0000000 = end_high _ exe.segments g.segments in
-    let e : exe.brk_start ≡ (end_of_last exe.segments + 4095) / 4096 * 4096 = g.brk in
-    ( omega (arith, length-append (map region_of exe.segments) (stack_region top ∷ heap_region exe.brk_start ∷ []))
-    , at_opening _ 0 exe.brk_start top exe.segments g.segments g.order (omega arith) (omega arith) )
+    let e : exe.brk_start ≡ (end_of_last exe.segments + 4095) / 4096 * 4096 = g.brk in (
+      omega (arith, length-append (map region_of exe.segments) (stack_region top ∷ heap_region exe.brk_start ∷ [])),
+      at_opening _ 0 exe.brk_start top exe.segments g.segments g.order (omega arith) (omega arith),
+    )
 
 pub in_reach-true : (start to : ℕ) → start ≤ to → to ≤ start + 67108864 → in_reach start to ≡ true
 in_reach-true start to l h = grind (arith, nat_tests)

@@ -164,6 +164,7 @@ KeepsCode-segments low end start old (s ∷ ss) a o h l =
     only : (w x : Bool) → x ≡ true → (w && x) ≡ false → w ≡ false
     only true x e h = cc
     only false x e h = refl
+
     end_of_tail : (s : Segment) (ss : List Segment) (start : ℕ) → end_of_last (s ∷ ss) ≤ start → end_of_last ss ≤ start
     end_of_tail s [] start h = omega arith
     end_of_tail s (t ∷ ss) start h = h

@@ -11,6 +11,7 @@ use std::alloc::{AllocError, Global};
 use std::marker::Model;
 
 const STACK_START: u32 = 0xBFF0_0000;
+
 const STACK_SIZE: usize = 1_048_576;
 
 /// The number of bytes of an operand.

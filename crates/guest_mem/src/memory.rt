@@ -9,12 +9,11 @@ ghost use Rattle.guest_mem.specs.Regions.{opening_regions};
 ghost use Rattle.guest_mem.specs.Layout.{is_usable};
 ghost use Rattle.guest_mem.specs.View.{with_regions, fetched, with_break};
 
+use crate::area::{Area, size};
 use br_word::Width;
 use elf_read::Exe;
 use std::alloc::{AllocError, Global};
 use std::marker::Model;
-
-use crate::area::{Area, size};
 
 /// How far the heap may grow, in bytes.
 const MOST_HEAP: u32 = 67_108_864;
@@ -193,3 +192,6 @@ impl Memory {
         Ok(to)
     }
 }
+
+#[cfg(test)]
+mod tests;

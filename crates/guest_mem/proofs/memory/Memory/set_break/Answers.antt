@@ -7,9 +7,10 @@ use Rattle.guest_mem.proofs.memory.Memory.set_break.Goals as goal
 
 pub invariant_of-self-2 : goal.invariant_of-self-2
 invariant_of-self-2 c =
-    let i = c.len-heap.result - 1 in
-    ( omega (arith, length-set c.self.inside.areas.items i c.resize.new.self, c.self.invariant.0)
-    , IsHeapLast-set c.self.inside.brk_start c.self.inside.areas.items i c.index_mut.result.now c.resize.new.self c.self.invariant.1 c.index_mut.ensures.value (ap (λ (r : Region). r.start) c.in_ok-resize.ensures.ok) )
+    let i = c.len-heap.result - 1 in (
+      omega (arith, length-set c.self.inside.areas.items i c.resize.new.self, c.self.invariant.0),
+      IsHeapLast-set c.self.inside.brk_start c.self.inside.areas.items i c.index_mut.result.now c.resize.new.self c.self.invariant.1 c.index_mut.ensures.value (ap (λ (r : Region). r.start) c.in_ok-resize.ensures.ok),
+    )
 
 pub returns-clause-ok : goal.returns-clause-ok
 returns-clause-ok c =
