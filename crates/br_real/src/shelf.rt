@@ -48,6 +48,7 @@ impl<'a, R: Files> Shelf for FileShelf<'a, R> {
     /// content. Where the name is a link, a device or the like, or `NAME.part` is there or cannot be made, they are
     /// written in place.
     fn store(&mut self, name: &str, bytes: &[u8]) -> Result<(), StoreError> {
+        // A field that the body reads is known to be in the range of its type.
         let _faults = self.faults;
         let mut part = String::from_str(self.alloc, name)?;
         part.push_str(".part")?;
@@ -115,10 +116,18 @@ mod tests {
         assert_eq!(rt; shelf.faults, 0);
 
         // No part of a store is left under another name, and a file that is not there is a fault.
-        assert!(rt; matches!(shelf.fetch(alloc, "kept_by_br_real.part", 9), Err(ShelfError::Failed)));
+        assert!(rt;
+            matches!(
+                shelf.fetch(alloc, "kept_by_br_real.part", 9),
+                Err(ShelfError::Failed)
+            )
+        );
         assert!(rt; matches!(shelf.fetch(alloc, ".", 9), Err(ShelfError::Failed)));
         assert_eq!(rt; shelf.faults, 2);
-        assert_eq!(rt; shelf.store("not_there/file", b"x"), Err(StoreError::Failed));
+        assert_eq!(rt;
+            shelf.store("not_there/file", b"x"),
+            Err(StoreError::Failed)
+        );
         assert_eq!(rt; shelf.store("/dev/full", b"x"), Err(StoreError::Failed));
         assert_eq!(rt; shelf.store(".", b"x"), Err(StoreError::Failed));
         assert_eq!(rt; shelf.faults, 5);

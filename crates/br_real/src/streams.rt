@@ -66,7 +66,11 @@ impl<T: Write> Sink for OutputSink<T> {
     fn give(&mut self, piece: &[u8]) -> Result<(), SinkError> {
         let written = write_whole(&mut self.output, piece);
         self.faults = self.faults.saturating_add(u64::from(!written));
-        if written { Ok(()) } else { Err(SinkError::Failed) }
+        if written {
+            Ok(())
+        } else {
+            Err(SinkError::Failed)
+        }
     }
 }
 
