@@ -1,12 +1,11 @@
 -- The heap is the last region.
 use Rattle.std.proofs.Common.{◌≡◌, ◌≢◌, ℕ, zero, suc, ◌+◌, ◌-◌, ◌<◌, ◌≤◌, Bool, true, false, List, [], ◌∷◌, ◌++◌, length, take, get_or, set, ◌/◌, ◌*◌, refl, sym, ◌∙◌, ap, subst, arith, length-set, length-append}
 use Rattle.std.specs.Prelude.{map, nat_eq, if◌then◌else◌}
-use Rattle.std.proofs.lemmas.List.{length-map}
 use Rattle.std.proofs.lemmas.Bool.Decides.{nat_tests}
 use Rattle.br_word.specs.Memory.{Region, resized, zeros}
 use Rattle.elf_read.specs.declared.exe.Segment.{Segment}
 use Rattle.elf_read.specs.declared.exe.Exe.{Exe}
-use Rattle.elf_read.specs.Elf.{IsSegment, AreSegments, Ascend, end_of_last, round_up, IsGuest}
+use Rattle.elf_read.specs.Elf.{AreSegments, Ascend, end_of_last, IsGuest}
 use Rattle.guest_mem.specs.Regions.{region_of, stack_region, heap_region, opening_regions}
 use Rattle.guest_mem.specs.View.{in_reach}
 use Rattle.guest_mem.proofs.Numbers.{length-cut}
@@ -77,8 +76,8 @@ HasHeap-resized start brk to rs i r x h l g e = record {
   some = omega (arith, length-set rs i x, h.some);
   last = IsHeapLast-set start rs i r x h.last g (ap (λ (t : Region). t.start) e);
   size =
-    let is : map (resized start (to - start)) rs ≡ set rs i x = map-resized start (to - start) rs i r h.last l g ∙ ap (set rs i) (sym e) in
-    subst (HasSize start (to - start)) is (HasSize-resized start (to - start) rs);
+      let is : map (resized start (to - start)) rs ≡ set rs i x = map-resized start (to - start) rs i r h.last l g ∙ ap (set rs i) (sym e) in
+      subst (HasSize start (to - start)) is (HasSize-resized start (to - start) rs);
 }
 
 pub HasHeap-size : (start brk : ℕ) (rs : List Region) (i : ℕ) (r : Region) → HasHeap start brk rs → i + 1 ≡ length rs → r ≡ get_or rs i r → length r.bytes ≡ brk - start

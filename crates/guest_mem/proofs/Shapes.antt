@@ -1,12 +1,12 @@
 -- The order, the starts and the permissions of a guest's regions stay, and so does its code.
-use Rattle.std.proofs.Common.{◌≡◌, ◌≢◌, ℕ, zero, suc, ◌+◌, ◌-◌, ◌<◌, ◌≤◌, Bool, true, false, ◌&&◌, List, [], ◌∷◌, ◌++◌, length, take, drop, Option, Some, None, refl, sym, ◌∙◌, ap, subst, arith, length-append, length-take, length-drop}
+use Rattle.std.proofs.Common.{◌≡◌, ◌≢◌, ℕ, ◌+◌, ◌-◌, ◌<◌, ◌≤◌, Bool, true, false, ◌&&◌, List, [], ◌∷◌, ◌++◌, length, take, drop, Option, Some, None, refl, sym, ◌∙◌, ap, arith, length-append}
 use Rattle.std.specs.Prelude.{map, option_map, nat_eq, if◌then◌else◌}
 use Rattle.std.proofs.lemmas.List.{map-append}
 use Rattle.std.proofs.lemmas.Bool.Decides.{nat_tests}
-use Rattle.br_word.specs.Memory.{Region, Use, Reads, Writes, Runs, allows, covers, bytes_at, put_over, written, resized, zeros}
+use Rattle.br_word.specs.Memory.{Region, Writes, Runs, covers, bytes_at, put_over, written, resized, zeros}
 use Rattle.elf_read.specs.declared.exe.Segment.{Segment}
 use Rattle.elf_read.specs.declared.exe.Exe.{Exe}
-use Rattle.elf_read.specs.Elf.{IsSegment, AreSegments, Ascend, end_of_last, round_up, IsGuest}
+use Rattle.elf_read.specs.Elf.{AreSegments, Ascend, end_of_last, round_up, IsGuest}
 use Rattle.guest_mem.specs.Regions.{region_of, stack_with, stack_region, heap_region, opening_regions}
 use Rattle.guest_mem.specs.Layout.{is_usable, Shape, shape_of, data_at, segment_shape, shapes_of, KeepsCode}
 use Rattle.guest_mem.proofs.Places.{and_left, and_right, covers-bounds}
@@ -156,7 +156,6 @@ KeepsCode-segments low end start old (s ∷ ss) a o h l =
     only : (w x : Bool) → x ≡ true → (w && x) ≡ false → w ≡ false
     only true x e h = cc
     only false x e h = refl
-
 
 pub KeepsCode-shapes : (exe : Exe) (brk : ℕ) → IsGuest exe → KeepsCode exe.brk_start (shapes_of exe brk)
 KeepsCode-shapes exe brk g =

@@ -1,7 +1,7 @@
-use Rattle.std.proofs.Common.{◌≡◌, ℕ, ◌+◌, ◌-◌, ◌<◌, ◌≤◌, Result, Ok, Err, true, length, set, map, sym, ◌∙◌, ap, arith}
+use Rattle.std.proofs.Common.{◌≡◌, ℕ, ◌+◌, ◌-◌, ◌<◌, Result, Ok, Err, length, set, map, sym, ◌∙◌, ap, arith}
 use Rattle.std.specs.Prelude.{if◌then◌else◌, OnErr}
 use Rattle.std.specs.declared.alloc.AllocError.{AllocError}
-use Rattle.br_word.specs.Memory.{Region, resized}
+use Rattle.br_word.specs.Memory.{resized}
 use Rattle.guest_mem.specs.View.{MemoryView}
 use Rattle.guest_mem.proofs.Heaps.{HasHeap-resized, HasHeap-size, map-resized, in_reach-true}
 use Rattle.guest_mem.proofs.memory.Memory.set_break.Goals as goal

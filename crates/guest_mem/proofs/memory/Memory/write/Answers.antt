@@ -16,7 +16,7 @@ pub invariant_of-self : goal.invariant_of-self
 invariant_of-self c =
     let r = c.index_mut.result.now in
     let bounds = covers-bounds r c.args.at (length c.args.from.now) (covers-place Writes c.args.at (length c.args.from.now) c.self.inside.areas.items c.in-Some.place r
-        (rw (← c.self.view_is) at (sym c.write_place.ensures ∙ c.in-Some.is)) c.index_mut.ensures.value) in
+    (rw (← c.self.view_is) at (sym c.write_place.ensures ∙ c.in-Some.is)) c.index_mut.ensures.value) in
     HasHeap-set c.self.inside.brk_start c.self.inside.brk c.self.inside.areas.items c.in-Some.place r c.copy_in.new.self c.self.invariant c.index_mut.ensures.value
     (ap (λ (s : Region). s.start) c.copy_in.ensures)
     (ap (λ (s : Region). length s.bytes) c.copy_in.ensures ∙ length-put_over r.bytes c.args.from.now (c.args.at - r.start) (omega (arith, bounds)))
