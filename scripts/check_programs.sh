@@ -1,0 +1,148 @@
+#!/usr/bin/env bash
+# usage: check_programs.sh PROGRAM [WORD..]
+# Runs every case of programs/cases with the recompiler PROGRAM (the WORDs stand before its own words), in a folder of its own:
+#   `run` of the executable shows the stored output, standard error and status, and reads no undefined flag;
+#   `build` without traces, then `run` of what it wrote shows the same;
+#   where the commands are there, `trace` shows the same and stores a file, `merge` joins the traces of all cases of a program,
+#   `build` with the traces and with the joined one writes the same file, and `run` of that file shows the same;
+#   where the machine runs 32-bit executables, each of these files shows the same on the processor.
+# A case's status is a number, or `fault KIND`. Prints each failure, and last 'N passed, M failed'; status 1 on a failure.
+set -u
+[ $# -gt 0 ] || { sed -n 2,3p "$0" >&2; exit 2; }
+here=$(cd "$(dirname "$0")" && pwd)
+. "$here/lib.sh"
+programs=$here/../programs
+tool=("$@")
+tool[0]=$(realpath "$(command -v "$1" || echo "$1")")
+folder=$(mktemp -d) || exit 2
+trap 'rm -rf "$folder"' EXIT
+cd "$folder" || exit 2
+got=$folder/got
+budget=2000000000
+
+# Whether the recompiler has the command: without words it refuses an unknown one at position 0.
+knows() {
+    "${tool[@]}" "$1" < /dev/null > /dev/null 2> usage
+    [ "$(cat usage)" != 'usage 0' ]
+}
+
+# Sets the words, input, wanted output and wanted status of a case.
+load_case() {
+    local at=$programs/cases/$1
+    words=()
+    [ ! -e "$at/args" ] || mapfile -t words < "$at/args"
+    input=/dev/null
+    [ ! -e "$at/stdin" ] || input=$at/stdin
+    cat "$at/stdout" > want.out 2> /dev/null
+    cat "$at/stderr" > want.err 2> /dev/null
+    wanted=$(cat "$at/status")
+    native_too=$native_kind
+    [ ! -e "$at/guest-only" ] || native_too=none
+}
+
+# The exit status of `run` and `trace` for the wanted status: 5 for a fault, else 0.
+command_status() { case $wanted in fault*) echo 5 ;; *) echo 0 ;; esac; }
+
+# One guest of the recompiler: output, standard error and last line. $1 names the check, $2 is a pattern for the line's end
+# from the number of steps that read an undefined flag. Recovered code reads the flags that a division leaves undefined
+# when it keeps the state, and no more than keeps them; other files must read none.
+check_guest() {
+    local name=$1 ending=$2 last
+    shift 2
+    timeout 300 "${tool[@]}" "$@" "${words[@]}" < "$input" > got.out 2> got.err
+    status=$?
+    last=$(tail -n 1 got.err)
+    case $wanted in
+        fault*) line="^$wanted [0-9a-f]{8} steps [0-9]+ undefined $ending\$" ;;
+        *) line="^exit $wanted steps [0-9]+ undefined $ending\$" ;;
+    esac
+    head -c -$((${#last} + 1)) got.err > got.said
+    if [ "$status" != "$(command_status)" ]; then
+        fail "$name: status $status, wanted $(command_status): $last"
+    elif ! [[ $last =~ $line ]]; then
+        fail "$name: report '$last', wanted a line $line"
+    elif ! cmp -s got.out want.out; then
+        fail "$name: another output"
+    elif ! cmp -s got.said want.err; then
+        fail "$name: another standard error"
+    else
+        pass
+    fi
+}
+
+# One executable on the processor or its emulator.
+check_native() {
+    local name=$1 file=$2
+    [ "$native_too" != none ] || return 0
+    chmod +x "$file"
+    run_natively "${native[@]}" "./$file" "${words[@]}"
+    if [ "$status" != "$wanted" ]; then
+        fail "$name: ended with $status, wanted $wanted"
+    elif ! cmp -s got.out want.out || ! cmp -s got.err want.err; then
+        fail "$name: another output or standard error"
+    else
+        pass
+    fi
+}
+
+# `build` with status 0 and a report line that begins with `built`.
+check_build() {
+    local name=$1 line
+    shift
+    line=$("${tool[@]}" build "$@" 2>&1 < /dev/null)
+    if [ $? = 0 ] && [[ $line =~ ^built\ [0-9]+\ [0-9]+\ [0-9]+$ ]]; then
+        pass
+    else
+        fail "$name: $line"
+        return 1
+    fi
+}
+
+# A trace of each case, stored under its name.
+trace_cases() {
+    for case in "${cases[@]}"; do
+        load_case "$case"
+        check_guest "$case: trace" ' edges [0-9]+' trace --steps "$budget" "trace-$case" E
+        [ -s "trace-$case" ] || fail "$case: trace stored no file"
+    done
+}
+
+# The file built with traces; where `merge` is there, the file of the joined traces is the same.
+build_traced() {
+    local traces=("${cases[@]/#/trace-}") line
+    check_build "$program: build with traces" N E "${traces[@]}" || return 1
+    [ "$has_merge" = 1 ] || return 0
+    line=$("${tool[@]}" merge joined E "${traces[@]}" 2>&1 < /dev/null)
+    if [ $? = 0 ] && [[ $line =~ ^merged\ [0-9]+$ ]]; then pass; else fail "$program: merge: $line"; fi
+    check_build "$program: build with the joined trace" J E joined || return 1
+    if cmp -s N J; then pass; else fail "$program: the joined trace gives another file"; fi
+}
+
+# Each case of the program over one file. $2 says what it is, $3 is a pattern for the steps that read an undefined flag.
+run_cases() {
+    for case in "${cases[@]}"; do
+        load_case "$case"
+        check_guest "$case: run of $2" "$3" run --steps "$budget" "$1"
+        check_native "$case: $2 on the $native_kind" "$1"
+    done
+}
+
+find_native "$programs/bin/hash"
+[ "$native_kind" != none ] || skip 'on the processor: this machine runs no 32-bit executable and has no qemu-i386'
+knows run || { skip 'all: the program has no command run'; exit 0; }
+has_merge=0
+! knows merge || has_merge=1
+has_trace=0
+if knows trace; then has_trace=1; else skip 'with traces: the program has no command trace'; fi
+
+for binary in "$programs"/bin/*; do
+    program=$(basename "$binary")
+    cases=($(cd "$programs/cases" && ls -d "$program"-*))
+    cp "$binary" E
+    run_cases E 'the original' 0
+    check_build "$program: build" N E && run_cases N 'its recompiled file' 0
+    [ "$has_trace" = 1 ] || continue
+    trace_cases
+    build_traced && run_cases N 'its recompiled file with traces' '[0-9]+'
+done
+finish
