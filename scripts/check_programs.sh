@@ -4,7 +4,8 @@
 #   `run` of the executable shows the stored output, standard error and status, and reads no undefined flag;
 #   `build` without traces, then `run` of what it wrote shows the same;
 #   where the commands are there, `trace` shows the same and stores a file, `merge` joins the traces of all cases of a program,
-#   `build` with the traces and with the joined one writes the same file, and `run` of that file shows the same;
+#   `build` with the traces and with the joined one writes the same file, and `run` of that file shows the same,
+#   also where the segments of the original in it may not be executed: every path of a traced run is recovered code;
 #   where the machine runs 32-bit executables, each of these files shows the same on the processor.
 # A case's status is a number, or `fault KIND`. Prints each failure, and last 'N passed, M failed'; status 1 on a failure.
 set -u
@@ -14,6 +15,7 @@ here=$(cd "$(dirname "$0")" && pwd)
 programs=$here/../programs
 tool=("$@")
 tool[0]=$(realpath "$(command -v "$1" || echo "$1")")
+[ -x "${tool[0]}" ] || { echo "check_programs.sh: $1 is no program" >&2; exit 2; }
 folder=$(mktemp -d) || exit 2
 trap 'rm -rf "$folder"' EXIT
 cd "$folder" || exit 2
@@ -85,12 +87,16 @@ check_native() {
     fi
 }
 
-# `build` with status 0 and a report line that begins with `built`.
+# The little-endian word of a file at an offset, as eight hexadecimal digits.
+word_at() { od -An -tx4 -j"$2" -N4 --endian=little "$1" | tr -d ' '; }
+
+# `build N E T..` with status 0, its report line, and a file of the length that it tells, with the entry of recovered code.
 check_build() {
     local name=$1 line
     shift
     line=$("${tool[@]}" build "$@" 2>&1 < /dev/null)
-    if [ $? = 0 ] && [[ $line =~ ^built\ [0-9]+\ [0-9]+\ [0-9]+$ ]]; then
+    if [ $? = 0 ] && [[ $line =~ ^built\ [0-9]+\ [0-9]+\ ([0-9]+)$ ]] && [ "$(wc -c < "$1")" = "${BASH_REMATCH[1]}" ] &&
+        [ "$(word_at "$1" 24)" = 01000000 ]; then
         pass
     else
         fail "$name: $line"
@@ -98,11 +104,33 @@ check_build() {
     fi
 }
 
+# The file $1 as $2, without the execute flag of each segment from 08000000 on.
+forbid_original() {
+    local at count start
+    cp "$1" "$2"
+    count=$((0x$(word_at "$1" 44) & 0xffff))
+    for ((at = 52; at < 52 + 32 * count; at += 32)); do
+        start=$((0x$(word_at "$1" $((at + 8)))))
+        if ((start >= 0x08000000)); then
+            printf "\\x$(printf %02x $((0x$(word_at "$1" $((at + 24))) & 6)))" | dd of="$2" bs=1 seek=$((at + 24)) conv=notrunc status=none
+        fi
+    done
+}
+
+# Each case that ends by itself, over the file whose original code may not be executed.
+check_coverage() {
+    forbid_original "$1" R
+    for case in "${cases[@]}"; do
+        load_case "$case"
+        [[ $wanted == fault* ]] || check_guest "$case: run of recovered code alone" '[0-9]+' run --steps "$budget" R
+    done
+}
+
 # A trace of each case, stored under its name.
 trace_cases() {
     for case in "${cases[@]}"; do
         load_case "$case"
-        check_guest "$case: trace" ' edges [0-9]+' trace --steps "$budget" "trace-$case" E
+        check_guest "$case: trace" '0 edges [0-9]+' trace --steps "$budget" "trace-$case" E
         [ -s "trace-$case" ] || fail "$case: trace stored no file"
     done
 }
@@ -143,6 +171,8 @@ for binary in "$programs"/bin/*; do
     check_build "$program: build" N E && run_cases N 'its recompiled file' 0
     [ "$has_trace" = 1 ] || continue
     trace_cases
-    build_traced && run_cases N 'its recompiled file with traces' '[0-9]+'
+    build_traced || continue
+    run_cases N 'its recompiled file with traces' '[0-9]+'
+    check_coverage N
 done
 finish
