@@ -14,14 +14,8 @@ static const word round_constants[64] = {
 
 static word turn(word value, int count) { return value >> count | value << (32 - count); }
 
-/* The barrier keeps the compiler from making a byte swap of this loop. */
 static word big_endian(const byte *at) {
-    word value = 0;
-    for (int k = 0; k < 4; k++) {
-        value = value << 8 | at[k];
-        __asm__("" : "+r"(value));
-    }
-    return value;
+    return (word)at[0] << 24 | (word)at[1] << 16 | (word)at[2] << 8 | at[3];
 }
 
 static void sha_block(word state[8], const byte *block) {
