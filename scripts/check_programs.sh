@@ -22,12 +22,6 @@ cd "$folder" || exit 2
 got=$folder/got
 budget=2000000000
 
-# Whether the recompiler has the command: without words it refuses an unknown one at position 0.
-knows() {
-    "${tool[@]}" "$1" < /dev/null > /dev/null 2> usage
-    [ "$(cat usage)" != 'usage 0' ]
-}
-
 # Sets the words, input, wanted output and wanted status of a case.
 load_case() {
     local at=$programs/cases/$1
@@ -51,6 +45,7 @@ command_status() { case $wanted in fault*) echo 5 ;; *) echo 0 ;; esac; }
 check_guest() {
     local name=$1 ending=$2 last
     shift 2
+    [ "$has_run" = 1 ] || return 0
     timeout 300 "${tool[@]}" "$@" "${words[@]}" < "$input" > got.out 2> got.err
     status=$?
     last=$(tail -n 1 got.err)
@@ -157,11 +152,18 @@ run_cases() {
 
 find_native "$programs/bin/hash"
 [ "$native_kind" != none ] || skip 'on the processor: this machine runs no 32-bit executable and has no qemu-i386'
-knows run || { skip 'all: the program has no command run'; exit 0; }
+has_run=0
+if ! knows run; then
+    skip 'runs by the program: it has no command run yet'
+elif ! knows_all_instructions; then
+    skip 'runs by the program: it does not know the whole instruction table yet'
+else
+    has_run=1
+fi
 has_merge=0
 ! knows merge || has_merge=1
 has_trace=0
-if knows trace; then has_trace=1; else skip 'with traces: the program has no command trace'; fi
+if knows trace; then has_trace=1; else skip 'with traces: the program has no command trace yet'; fi
 
 for binary in "$programs"/bin/*; do
     program=$(basename "$binary")

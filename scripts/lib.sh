@@ -39,3 +39,31 @@ run_natively() {
         139) status='fault access' ;;
     esac
 }
+
+# Hexadecimal digits, blanks between them ignored, as bytes on standard output.
+bytes() { printf "$(tr -d ' \n' <<< "$*" | sed 's/../\\x&/g')"; }
+
+# A number as the four bytes of a little-endian word, in hexadecimal.
+word() { printf '%02x%02x%02x%02x' $(($1 & 255)) $(($1 >> 8 & 255)) $(($1 >> 16 & 255)) $(($1 >> 24 & 255)); }
+
+# An executable of one segment that is the file itself, with the code after the headers: FILE CODE [ADDRESS] [FLAGS].
+executable() {
+    local code start=${3:-0x08048000} flags=${4:-5} size
+    code=$(tr -d ' \n' <<< "$2")
+    size=$((84 + ${#code} / 2))
+    bytes "7f454c46 01010100 00000000 00000000 02000300 01000000 $(word $((start + 84))) 34000000 00000000 00000000
+        34002000 01000000 00000000 01000000 00000000 $(word $((start))) $(word $((start))) $(word $size) $(word $size)
+        $(word "$flags") 00100000 $code" > "$1"
+}
+
+# Whether the recompiler `tool` has the command: without words it refuses an unknown one at position 0.
+knows() {
+    "${tool[@]}" "$1" < /dev/null > /dev/null 2> usage
+    [ "$(cat usage)" != 'usage 0' ]
+}
+
+# Whether its `run` knows more than moves and jumps.
+knows_all_instructions() {
+    executable probe '21c0 b801000000 bb00000000 cd80'
+    [ "$("${tool[@]}" run probe 2>&1 < /dev/null)" = 'exit 0 steps 4 undefined 0' ]
+}
