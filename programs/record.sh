@@ -1,9 +1,11 @@
 #!/usr/bin/env bash
-# usage: record.sh [CASE..]: runs each case (or those named) on the processor and writes its stdout, stderr and status.
+# usage: record.sh [CASE..]: runs each case (or those named) on the processor and writes its stdout, stderr, status and steps.
 # A case is a folder of cases/; its program is what stands before the first '-' of its name.
-# status is the exit status, or `fault KIND` where a signal ended the program.
+# status is the exit status, or `fault KIND` where a signal ended the program; steps is the number of single steps.
 set -u
 cd "$(dirname "$0")" || exit 1
+counter=$(mktemp) && gcc -O2 -Wall -Wextra -o "$counter" steps.c || exit 1
+trap 'rm -f "$counter"' EXIT
 [ $# -gt 0 ] || set -- $(ls cases)
 for case in "$@"; do
     folder=cases/$case
@@ -19,6 +21,7 @@ for case in "$@"; do
         139) status='fault access' ;;
     esac
     echo "$status" > "$folder/status"
+    "$counter" "bin/${case%%-*}" "${words[@]}" < "$input" > /dev/null 2> /dev/null 3> "$folder/steps"
     for stream in stdout stderr; do
         [ -s "$folder/$stream" ] || rm -f "$folder/$stream"
     done

@@ -45,7 +45,8 @@ choose_stage() {
 
 # The comparison with the reference program, from a copy of both, since the reference is built beside its sources.
 compare() {
-    local copy=${TMPDIR:-/tmp}/binrec-compare-$(id -u) today
+    local copy today
+    copy=${TMPDIR:-/tmp}/binrec-compare-$(id -u)
     if [ ! -e ../shared/check/compare.py ] || [ ! -d ../shared/oracle ]; then
         skip 'comparison with the reference program' 'no ../shared/check and ../shared/oracle'
         return

@@ -1,8 +1,9 @@
 #!/usr/bin/env bash
 # usage: check_programs.sh PROGRAM [WORD..]
 # Runs every case of programs/cases with the recompiler PROGRAM (the WORDs stand before its own words), in a folder of its own:
-#   `run` of the executable shows the stored output, standard error and status, and reads no undefined flag;
-#   `build` without traces, then `run` of what it wrote shows the same;
+#   `run` of the executable shows the stored output, standard error and status in the steps that a processor took, and reads
+#   no undefined flag;
+#   `build` without traces, then `run` of what it wrote shows the same in one step more, the jump to the original's entry;
 #   where the commands are there, `trace` shows the same and stores a file, `merge` joins the traces of all cases of a program,
 #   `build` with the traces and with the joined one writes the same file, and `run` of that file shows the same,
 #   also where the segments of the original in it may not be executed: every path of a traced run is recovered code;
@@ -32,6 +33,7 @@ load_case() {
     cat "$at/stdout" > want.out 2> /dev/null
     cat "$at/stderr" > want.err 2> /dev/null
     wanted=$(cat "$at/status")
+    steps=$(cat "$at/steps")
     native_too=$native_kind
     [ ! -e "$at/guest-only" ] || native_too=none
 }
@@ -40,7 +42,7 @@ load_case() {
 command_status() { case $wanted in fault*) echo 5 ;; *) echo 0 ;; esac; }
 
 # One guest of the recompiler: output, standard error and last line. $1 names the check, $2 is a pattern for the line's end
-# from the number of steps that read an undefined flag. Recovered code reads the flags that a division leaves undefined
+# from the number of steps on, and of steps that read an undefined flag. Recovered code reads the flags that a division leaves undefined
 # when it keeps the state, and no more than keeps them; other files must read none.
 check_guest() {
     local name=$1 ending=$2 last
@@ -50,8 +52,8 @@ check_guest() {
     status=$?
     last=$(tail -n 1 got.err)
     case $wanted in
-        fault*) line="^$wanted [0-9a-f]{8} steps [0-9]+ undefined $ending\$" ;;
-        *) line="^exit $wanted steps [0-9]+ undefined $ending\$" ;;
+        fault*) line="^$wanted [0-9a-f]{8} steps $ending\$" ;;
+        *) line="^exit $wanted steps $ending\$" ;;
     esac
     head -c -$((${#last} + 1)) got.err > got.said
     if [ "$status" != "$(command_status)" ]; then
@@ -117,7 +119,7 @@ check_coverage() {
     forbid_original "$1" R
     for case in "${cases[@]}"; do
         load_case "$case"
-        [[ $wanted == fault* ]] || check_guest "$case: run of recovered code alone" '[0-9]+' run --steps "$budget" R
+        [[ $wanted == fault* ]] || check_guest "$case: run of recovered code alone" '[0-9]+ undefined [0-9]+' run --steps "$budget" R
     done
 }
 
@@ -125,7 +127,7 @@ check_coverage() {
 trace_cases() {
     for case in "${cases[@]}"; do
         load_case "$case"
-        check_guest "$case: trace" '0 edges [0-9]+' trace --steps "$budget" "trace-$case" E
+        check_guest "$case: trace" "$steps undefined 0 edges [0-9]+" trace --steps "$budget" "trace-$case" E
         [ -s "trace-$case" ] || fail "$case: trace stored no file"
     done
 }
@@ -141,11 +143,15 @@ build_traced() {
     if cmp -s N J; then pass; else fail "$program: the joined trace gives another file"; fi
 }
 
-# Each case of the program over one file. $2 says what it is, $3 is a pattern for the steps that read an undefined flag.
+# Each case of the program over one file. $2 says what it is, $3 how many steps more than the original it takes, or `any`
+# number of steps, also such as read undefined flags.
 run_cases() {
+    local ending
     for case in "${cases[@]}"; do
         load_case "$case"
-        check_guest "$case: run of $2" "$3" run --steps "$budget" "$1"
+        ending='[0-9]+ undefined [0-9]+'
+        [ "$3" = any ] || ending="$((steps + $3)) undefined 0"
+        check_guest "$case: run of $2" "$ending" run --steps "$budget" "$1"
         check_native "$case: $2 on the $native_kind" "$1"
     done
 }
@@ -170,11 +176,11 @@ for binary in "$programs"/bin/*; do
     cases=($(cd "$programs/cases" && ls -d "$program"-*))
     cp "$binary" E
     run_cases E 'the original' 0
-    check_build "$program: build" N E && run_cases N 'its recompiled file' 0
+    check_build "$program: build" N E && run_cases N 'its recompiled file' 1
     [ "$has_trace" = 1 ] || continue
     trace_cases
     build_traced || continue
-    run_cases N 'its recompiled file with traces' '[0-9]+'
+    run_cases N 'its recompiled file with traces' any
     check_coverage N
 done
 finish

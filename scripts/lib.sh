@@ -1,3 +1,4 @@
+# shellcheck shell=bash
 # What the checks share: counting, and whether and how this machine runs a 32-bit executable.
 passed=0
 failed=0
