@@ -7,6 +7,7 @@
 #   where the commands are there, `trace` shows the same and stores a file, `merge` joins the traces of all cases of a program,
 #   `build` with the traces and with the joined one writes the same file, and `run` of that file shows the same,
 #   also where the segments of the original in it may not be executed: every path of a traced run is recovered code;
+#   and every case over the file built with the trace of one case alone, most of whose paths leave for the original;
 #   where the machine runs 32-bit executables, each of these files shows the same on the processor.
 # A case's status is a number, or `fault KIND`. Prints each failure, and last 'N passed, M failed'; status 1 on a failure.
 set -u
@@ -182,5 +183,6 @@ for binary in "$programs"/bin/*; do
     build_traced || continue
     run_cases N 'its recompiled file with traces' any
     check_coverage N
+    check_build "$program: build with one trace" O E "trace-${cases[0]}" && run_cases O 'its file with one trace' any
 done
 finish
