@@ -3,3 +3,4 @@ pub mod Refusals
 pub mod Walk
 pub mod Parts
 pub mod Accepted
+pub mod Result

@@ -1,11 +1,14 @@
 -- Segments: the last of them, and their bytes.
-use Rattle.std.proofs.Common.{◌≡◌, ℕ, zero, suc, ◌+◌, ◌-◌, ◌<◌, ◌≤◌, List, [], ◌∷◌, ◌++◌, length, take, drop, get_or, refl, sym, ap, ◌∙◌, arith, append_assoc, length-append, length-drop}
+use Rattle.std.proofs.Common.{◌≡◌, ℕ, zero, suc, ◌+◌, ◌-◌, ◌<◌, ◌≤◌, true, ◌&&◌, List, [], ◌∷◌, ◌++◌, length, take, drop, map, get_or, refl, sym, ap, ◌∙◌, arith, append_assoc, length-append}
 use Rattle.std.proofs.Math.ListN.{set}
+use Rattle.std.proofs.Math.Seq.{drop-cons}
 use Rattle.std.proofs.lemmas.List.{length-take-le, drop_more, set_at, take_more, get_or-drop}
+use Rattle.std.specs.Prelude.{if◌then◌else◌}
 use Rattle.br_word.specs.Memory.{zeros}
 use Rattle.elf_read.specs.declared.exe.Segment.{Segment}
-use Rattle.elf_read.specs.Elf.{AreSegments, end_of_last}
-use Rattle.elf_read.specs.Code.{segment_bytes}
+use Rattle.elf_read.specs.declared.header.Header.{Header}
+use Rattle.elf_read.specs.Elf.{AreSegments, in_segment, end_of_last}
+use Rattle.elf_read.specs.Code.{segment_bytes, code_at}
 use Rattle.elf_read.proofs.Numbers.{length_zeros}
 
 pub last_is : (i : ℕ) (ss : List Segment) (s : Segment) → length ss ≡ i + 1 → s ≡ get_or ss i s → end_of_last ss ≡ s.start + s.size
@@ -14,6 +17,11 @@ last_is zero (t ∷ []) s h e = ap (λ x. x.start + x.size) (sym e)
 last_is (suc i) (t ∷ []) s h e = absurd (omega arith)
 last_is zero (t ∷ u ∷ rest) s h e = absurd (omega arith)
 last_is (suc i) (t ∷ u ∷ rest) s h e = last_is i (u ∷ rest) s (omega arith) e
+
+pub next_is : (i : ℕ) (ss : List Segment) (s : Segment) → i < length ss → s ≡ get_or ss i s → drop i ss ≡ s ∷ drop (i + 1) ss
+next_is i ss s h e =
+    let n : suc i ≡ i + 1 = omega arith in
+    drop-cons ss i s h ∙ ap (λ x. x ∷ drop (suc i) ss) (sym e) ∙ ap (λ n. s ∷ drop n ss) n
 
 pub last_bound : (low : ℕ) (ss : List Segment) → AreSegments low ss → end_of_last ss ≤ 0xA0000000
 last_bound low [] h = omega arith
@@ -48,3 +56,12 @@ copy_step xs old into i b e l m y =
     ∙ ap (λ x. front ++ x ∷ after) y
     ∙ sym (append_assoc front (get_or xs i 0 ∷ []) after)
     ∙ ap (λ x. x ++ after) (sym (take_more xs i 0 l))
+
+-- the code at an address of the segment that a walk has come to
+pub code_here : (at i : ℕ) (ss : List Segment) (s : Segment) (code : List ℕ) → code_at at (drop i ss) ≡ code → i < length ss → s ≡ get_or ss i s → (s.perms.exec && in_segment at s) ≡ true → drop (at - s.start) (segment_bytes s) ≡ code
+code_here at i ss s code inv l e y =
+    sym (ap (code_at at) (next_is i ss s l e) ∙ ap (λ b. if b then drop (at - s.start) (segment_bytes s) else code_at at (drop (i + 1) ss)) y) ∙ inv
+
+-- a segment more
+pub push_step : (f : Header → Segment) (items new all : List Segment) (s : Segment) (h : Header) (hs : List Header) → new ≡ items ++ s ∷ [] → s ≡ f h → items ++ map f (h ∷ hs) ≡ all → new ++ map f hs ≡ all
+push_step f items new all s h hs e y inv = ap (λ x. x ++ map f hs) e ∙ append_assoc items (s ∷ []) (map f hs) ∙ ap (λ s. items ++ s ∷ map f hs) y ∙ inv

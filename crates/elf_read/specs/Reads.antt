@@ -17,11 +17,15 @@ ReadsElf reach bytes (Ok exe) = elf reach bytes ≡ Ok exe
 ReadsElf reach bytes (Err (Answer.Refused number place)) = elf reach bytes ≡ Err (record { number = number; place = place })
 ReadsElf reach bytes (Err Answer.Memory) = Unit {0}
 
+-- an error is this refusal
+abbrev pub Blames : ElfError → Option Spec.Refused → Type 0
+Blames (Answer.Refused number place) refused = refused ≡ Some (record { number = number; place = place })
+Blames Answer.Memory refused = ⊥
+
 -- a check went well, or answered this refusal
 abbrev pub Says : {X : Type 0} → Result X ElfError → Option Spec.Refused → Type 0
 Says (Ok _) refused = refused ≡ None
-Says (Err (Answer.Refused number place)) refused = refused ≡ Some (record { number = number; place = place })
-Says (Err Answer.Memory) refused = ⊥
+Says (Err e) refused = Blames e refused
 
 -- where the program headers of a file lie
 pub record IsTable (bytes : List ℕ) (table : Table) : Type 0 where

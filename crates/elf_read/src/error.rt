@@ -1,4 +1,5 @@
 //! Why a file is not read.
+use std::alloc::AllocError;
 use thiserror::Error;
 
 /// Why [`read_elf`](crate::read_elf) gives no executable.
@@ -11,4 +12,15 @@ pub enum ElfError {
     /// Want of memory.
     #[error("out of memory")]
     Memory,
+}
+
+impl From<AllocError> for ElfError {
+    ghost use Rattle.std.specs.Prelude.{◌≡◌};
+    ghost use Rattle.elf_read.specs.declared.error.ElfError.TheVariants.{Memory};
+
+    ghost from_gives = { λ _ e. e ≡ Memory };
+
+    fn from(_: AllocError) -> Self {
+        ElfError::Memory
+    }
 }

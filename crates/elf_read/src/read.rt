@@ -149,7 +149,7 @@ pub fn read_elf(alloc: Global, bytes: &[u8], reach: Reach) -> Result<Exe, ElfErr
 {
     let table = check_file(bytes)?;
     check_table(bytes, table, reach)?;
-    let segments = load_segments(alloc, bytes, table).map_err(|_| ElfError::Memory)?;
+    let segments = load_segments(alloc, bytes, table)?;
     Ok(Exe {
         entry: word_at(bytes, 24),
         brk_start: heap_start(&segments),

@@ -13,7 +13,7 @@ pub loop-i-preserved : goal.loop-i-preserved
 loop-i-preserved c =
     let left = loaded_left c.args.bytes.now c.args.table (c.loop-i.i + 1) in
     elim c.else-has_memory.branch [
-      else-has_memory-via-then-has_memory+else-is_entry w ↦ held_on c.args.entry c.read_header-header.result left (sym w.is_entry.ensures ∙ w.if-is_entry.false)
-      ∙ loaded_on c.args.bytes.now c.args.table c.loop-i.i c.read_header-header.result c.loop-i-test.true c.read_header-header.ensures (holds_entry c.args.entry) (holds_entry c.args.entry (loaded c.args.bytes.now)) c.loop-i.invariant (sym c.has_memory.ensures ∙ w.if-has_memory.true)
+      | else-has_memory-via-then-has_memory+else-is_entry w ↦ held_on c.args.entry c.read_header-header.result left (sym w.is_entry.ensures ∙ w.if-is_entry.false)
+          ∙ loaded_on c.args.bytes.now c.args.table c.loop-i.i c.read_header-header.result c.loop-i-test.true c.read_header-header.ensures (holds_entry c.args.entry) (holds_entry c.args.entry (loaded c.args.bytes.now)) c.loop-i.invariant (sym c.has_memory.ensures ∙ w.if-has_memory.true)
       | else-has_memory-via-else-has_memory w ↦ passed_over c.args.bytes.now c.args.table c.loop-i.i c.read_header-header.result c.loop-i-test.true c.read_header-header.ensures (holds_entry c.args.entry) (holds_entry c.args.entry (loaded c.args.bytes.now)) c.loop-i.invariant (sym c.has_memory.ensures ∙ w.if-has_memory.false)
     ]

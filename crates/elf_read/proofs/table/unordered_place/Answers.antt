@@ -13,9 +13,9 @@ pub loop-i-preserved : goal.loop-i-preserved
 loop-i-preserved c =
     let left = loaded_left c.args.bytes.now c.args.table (c.loop-i.i + 1) in
     elim c.if-has_memory.branch [
-      then-has_memory+else-header-end w ↦ ap (λ e. first_below e left) w.end-is
-      ∙ below_on c.loop-i.end c.read_header-header.result left w.if-header-end.false
-      ∙ loaded_on c.args.bytes.now c.args.table c.loop-i.i c.read_header-header.result c.loop-i-test.true c.read_header-header.ensures (first_below c.loop-i.end) (first_below 0 (loaded c.args.bytes.now)) c.loop-i.invariant (sym c.has_memory.ensures ∙ w.if-has_memory.true)
+      | then-has_memory+else-header-end w ↦ ap (λ e. first_below e left) w.end-is
+          ∙ below_on c.loop-i.end c.read_header-header.result left w.if-header-end.false
+          ∙ loaded_on c.args.bytes.now c.args.table c.loop-i.i c.read_header-header.result c.loop-i-test.true c.read_header-header.ensures (first_below c.loop-i.end) (first_below 0 (loaded c.args.bytes.now)) c.loop-i.invariant (sym c.has_memory.ensures ∙ w.if-has_memory.true)
       | else-has_memory w ↦ ap (λ e. first_below e left) w.end-is
-      ∙ passed_over c.args.bytes.now c.args.table c.loop-i.i c.read_header-header.result c.loop-i-test.true c.read_header-header.ensures (first_below c.loop-i.end) (first_below 0 (loaded c.args.bytes.now)) c.loop-i.invariant (sym c.has_memory.ensures ∙ w.if-has_memory.false)
+          ∙ passed_over c.args.bytes.now c.args.table c.loop-i.i c.read_header-header.result c.loop-i-test.true c.read_header-header.ensures (first_below c.loop-i.end) (first_below 0 (loaded c.args.bytes.now)) c.loop-i.invariant (sym c.has_memory.ensures ∙ w.if-has_memory.false)
     ]
