@@ -128,3 +128,69 @@ impl Shelf for CalmShelf {
         Ok(())
     }
 }
+
+#[cfg(test)]
+mod tests {
+    use super::*;
+    use std::alloc::AllocError;
+
+    fn three(alloc: Global) -> Result<Vec<(String, Vec<u8>)>, AllocError> {
+        let mut files = Vec::new(alloc);
+        for (name, bytes) in [("a", "first"), ("a", "second"), ("empty", "")] {
+            let name = String::from_str(alloc, name)?;
+            files.push((name, bytes.as_bytes().to_vec(alloc)?))?;
+        }
+        Ok(files)
+    }
+
+    fn length_of<S: Shelf>(
+        shelf: &mut S,
+        alloc: Global,
+        name: &str,
+        limit: u32,
+    ) -> Result<usize, ShelfError> {
+        Ok(shelf.fetch(alloc, name, limit)?.len())
+    }
+
+    #[test]
+    fn fails_at_the_listed_calls(rt: HostRuntime) -> Result<(), AllocError> {
+        let alloc = rt.alloc();
+        let failing = vec![in alloc; 2u32, 5, 5, 0]?;
+        let mut shelf = MemShelf::new(alloc, three(alloc)?, failing);
+        assert_eq!(rt; length_of(&mut shelf, alloc, "a", 5), Ok(5));
+        assert_eq!(rt; shelf.store("a", b"lost"), Err(StoreError::Failed));
+        assert_eq!(rt; shelf.get("a"), Some(&b"first"[..]));
+        assert_eq!(rt; shelf.store("a", b"new"), Ok(()));
+        assert_eq!(rt;
+            length_of(&mut shelf, alloc, "a", 2),
+            Err(ShelfError::TooLong)
+        );
+        assert_eq!(rt;
+            length_of(&mut shelf, alloc, "a", 3),
+            Err(ShelfError::Failed)
+        );
+        assert_eq!(rt; length_of(&mut shelf, alloc, "a", 3), Ok(3));
+        assert_eq!(rt;
+            length_of(&mut shelf, alloc, "b", 3),
+            Err(ShelfError::Failed)
+        );
+        assert_eq!(rt; shelf.get("b"), None);
+        Ok(())
+    }
+
+    #[test]
+    fn keeps_what_was_stored(rt: HostRuntime) -> Result<(), AllocError> {
+        let alloc = rt.alloc();
+        let mut shelf = CalmShelf::new(alloc, three(alloc)?);
+        assert_eq!(rt; length_of(&mut shelf, alloc, "empty", 0), Ok(0));
+        assert_eq!(rt; shelf.store("new", b"n"), Ok(()));
+        assert_eq!(rt; shelf.store("new", b"nn"), Ok(()));
+        assert_eq!(rt; length_of(&mut shelf, alloc, "new", 9), Ok(2));
+        assert_eq!(rt;
+            length_of(&mut shelf, alloc, "ne", 9),
+            Err(ShelfError::Failed)
+        );
+        assert_eq!(rt; shelf.get("a"), Some(&b"first"[..]));
+        Ok(())
+    }
+}

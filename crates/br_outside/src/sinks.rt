@@ -92,3 +92,26 @@ impl Sink for CalmSink {
         Ok(())
     }
 }
+
+#[cfg(test)]
+mod tests {
+    use super::*;
+    use std::alloc::AllocError;
+
+    fn give_both<S: Sink>(sink: &mut S) -> (Result<(), SinkError>, Result<(), SinkError>) {
+        (sink.give(b"ab"), sink.give(b"cd"))
+    }
+
+    #[test]
+    fn writes_in_order(rt: HostRuntime) -> Result<(), AllocError> {
+        let alloc = rt.alloc();
+        let mut sink = CalmSink::new(alloc);
+        assert_eq!(rt; give_both(&mut sink), (Ok(()), Ok(())));
+        assert_eq!(rt; sink.written(), b"abcd".as_slice());
+
+        let mut sink = MemSink::new(alloc, vec![in alloc; 1u32]?);
+        assert_eq!(rt; give_both(&mut sink), (Err(SinkError::Failed), Ok(())));
+        assert_eq!(rt; sink.written(), b"cd".as_slice());
+        Ok(())
+    }
+}

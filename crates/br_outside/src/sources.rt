@@ -114,3 +114,33 @@ impl Source for CalmSource {
         Ok(count)
     }
 }
+
+#[cfg(test)]
+mod tests {
+    use super::*;
+    use std::alloc::AllocError;
+
+    fn second_taken<S: Source>(source: &mut S) -> (Result<usize, Failed>, [u8; 4]) {
+        let mut piece = [7u8; 4];
+        let _first = source.take(&mut piece[..2]);
+        piece = [7; 4];
+        let answer = source.take(&mut piece);
+        (answer, piece)
+    }
+
+    #[test]
+    fn takes_in_order(rt: HostRuntime) -> Result<(), AllocError> {
+        let alloc = rt.alloc();
+        let mut source = CalmSource::new(b"abcd".to_vec(alloc)?);
+        assert_eq!(rt; second_taken(&mut source), (Ok(2), *b"cd\x07\x07"));
+        assert_eq!(rt; source.left(), b"".as_slice());
+        assert_eq!(rt; source.take(&mut [0u8; 3]), Ok(0));
+
+        let failing = vec![in alloc; 2u32]?;
+        let mut source = MemSource::new(b"abcd".to_vec(alloc)?, failing);
+        assert_eq!(rt; second_taken(&mut source), (Err(Failed), [7; 4]));
+        assert_eq!(rt; source.left(), b"cd".as_slice());
+        assert_eq!(rt; second_taken(&mut source), (Ok(0), [7; 4]));
+        Ok(())
+    }
+}

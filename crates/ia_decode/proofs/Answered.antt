@@ -59,15 +59,18 @@ decode_take bytes fits = by_answer (decode_of bytes) refl (decode_of (take 15 by
   where
     parts : (n : ℕ) (xs : List ℕ) → take n xs ++ drop n xs ≡ xs
     parts n xs = take-append-drop n xs
+
     longer : (x : Inst × ℕ) → decode_of (take 15 bytes) ≡ Some x → decode_of bytes ≡ Some x
     longer x e =
         let whole : take x.1 (take 15 bytes) ++ (drop x.1 (take 15 bytes) ++ drop 15 bytes) ≡ bytes = sym (append_assoc (take x.1 (take 15 bytes)) (drop x.1 (take 15 bytes)) (drop 15 bytes)) ∙ ap (λ (w : List ℕ). w ++ drop 15 bytes) (parts x.1 (take 15 bytes)) ∙ parts 15 bytes in
         ap decode_of (sym whole) ∙ decode_front (take 15 bytes) x (front_bytes 15 bytes fits) e (drop x.1 (take 15 bytes) ++ drop 15 bytes)
+
     shorter : (x : Inst × ℕ) → decode_of bytes ≡ Some x → decode_of (take 15 bytes) ≡ Some x
     shorter x e =
         let n = decode_length bytes x fits e in
         let same : take x.1 (take 15 bytes) ≡ take x.1 bytes = within x.1 15 bytes n.1 in
         ap decode_of (sym (parts x.1 (take 15 bytes)) ∙ ap (λ (w : List ℕ). w ++ drop x.1 (take 15 bytes)) same) ∙ decode_front bytes x fits e (drop x.1 (take 15 bytes))
+
     by_answer : (x : Option (Inst × ℕ)) → decode_of bytes ≡ x → (y : Option (Inst × ℕ)) → decode_of (take 15 bytes) ≡ y → y ≡ x
     by_answer None e None f = refl
     by_answer None e (Some y) f = sym (longer y f) ∙ e

@@ -79,7 +79,12 @@ fn constant_inst(op: Constant, w: Width, n: u32) -> Inst
 
 /// An immediate behind a pair of opcodes.
 #[tactic(auto, unfolding(ia_inst::specs::Instructions::constant_at))]
-pub fn constant(prefixes: Prefixes, op: Constant, first: bool, bytes: &[u8]) -> Option<(Inst, &[u8])>
+pub fn constant(
+    prefixes: Prefixes,
+    op: Constant,
+    first: bool,
+    bytes: &[u8],
+) -> Option<(Inst, &[u8])>
     ensures { Gives (λ x. (x.0, x.1.now)) result (constant_at prefixes op first bytes.now) }
 {
     let w = width(prefixes, first)?;
@@ -225,4 +230,3 @@ pub fn multiply(short: bool, bytes: &[u8]) -> Option<(Inst, &[u8])>
         ))
     }
 }
-

@@ -87,4 +87,3 @@ pub fn sign_extended_to(width: Width, byte: u8) -> u32
         Width::B32 => sign_extended(byte),
     }
 }
-

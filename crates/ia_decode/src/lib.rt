@@ -15,3 +15,6 @@ mod uniqueness;
 
 pub use instruction::decode;
 pub use uniqueness::{no_proper_front, one_instruction, one_spelling};
+
+#[cfg(test)]
+mod tests;

@@ -89,4 +89,3 @@ pub fn pop(bytes: &[u8]) -> Option<(Inst, &[u8])>
         None
     }
 }
-

@@ -135,4 +135,3 @@ pub fn escape(prefixes: Prefixes, bytes: &[u8]) -> Option<(Inst, &[u8])>
     let opcode = second_from(first)?;
     second(prefixes, opcode, rest)
 }
-

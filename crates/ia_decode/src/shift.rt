@@ -60,4 +60,3 @@ pub fn shift(prefixes: Prefixes, by: By, first: bool, bytes: &[u8]) -> Option<(I
     let op = shift_op(reg)?;
     Some((Inst::Shift { op, w, dst, count }, rest))
 }
-

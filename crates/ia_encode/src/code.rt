@@ -1,3 +1,5 @@
+//! The parts of a spelling: bytes, immediates and operands.
+
 ghost use Rattle.std.specs.Prelude.{◌≡◌, ℕ, ◌+◌, ◌<◌, ◌≤◌, List, [], ◌∷◌, ◌++◌, IsTrue};
 ghost use Rattle.ia_encode.specs.Written.{written};
 ghost use Rattle.ia_inst.specs.Operands.{two, four, fields};

@@ -1,10 +1,13 @@
-ghost use Rattle.std.specs.Prelude.{◌≡◌, ℕ, ◌+◌, ◌<◌, ◌≤◌, List, take, IsTrue};
+//! Spellings of instructions, one row after another.
+
+ghost use Rattle.std.specs.Prelude.{◌≡◌, ℕ, ◌+◌, ◌<◌, ◌≤◌, List, ◌∷◌, ◌++◌, length, take, IsTrue};
 ghost use Rattle.ia_encode.specs.Written.{written};
-ghost use Rattle.ia_inst.specs.Spells.{Spells};
+ghost use Rattle.ia_inst.specs.Spells.{size, Spells};
+ghost use Rattle.ia_inst.specs.Instructions.{decode_of};
 ghost use Rattle.ia_inst.specs.Canonical.{rm_valid, address_valid, imm_valid, move_valid, test_valid, is_long, source_valid, count_valid, by_valid, widens, valid_of, fits_extended, operand_bytes, alu_bytes, test_bytes, mov_bytes, step_bytes, push_bytes, pop_bytes, imul_bytes, shift_reg, shift_bytes, rotate_reg, rotate_bytes, extend_bytes, string_bytes, canonical};
 
 use crate::code::{Code, fits_signed_byte};
-use ia_inst::{Count, Inst, Rm, ShiftOp, Src, Width, canonical_spelling};
+use ia_inst::{Addr, Count, Inst, Rm, ShiftOp, Src, Width, canonical_spelling};
 
 /// Whether an immediate of 16 or 32 bits is a sign extended byte.
 fn fits_sign_extended(w: Width, n: u32) -> bool
@@ -227,6 +230,38 @@ fn string(first: u8, w: Width, rep: bool) -> Code
     }
 }
 
+fn lea(w: Width, dst: u8, addr: &Addr) -> Code
+    requires dst { dst < 8 }
+    requires addr { IsTrue (address_valid addr.now) }
+    ensures written { written result ≡ size w ++ 0x8D ∷ operand_bytes dst (Rm.Mem addr.now) }
+    ensures short { result.length ≤ 15 }
+{
+    let memory = Rm::Mem(*addr);
+    Code::new().size(w).byte(0x8d).operand(dst, &memory)
+}
+
+fn cmov(cond: u8, dst: u8, src: &Rm) -> Code
+    requires cond { cond < 16 }
+    requires dst { dst < 8 }
+    requires src { IsTrue (rm_valid src.now) }
+    ensures written { written result ≡ 0x0F ∷ (0x40 + cond) ∷ operand_bytes dst src.now }
+    ensures short { result.length ≤ 15 }
+{
+    let opcode = Code::new().byte(0x0f).byte(0x40 + cond);
+    opcode.operand(dst, src)
+}
+
+fn ret(pop: u16) -> Code
+    ensures written { written result ≡ canonical (Inst.Ret pop) }
+    ensures short { result.length ≤ 15 }
+{
+    if pop == 0 {
+        Code::new().byte(0xc3)
+    } else {
+        Code::new().byte(0xc2).two(pop)
+    }
+}
+
 fn code(i: &Inst) -> Code
     requires { IsTrue (valid_of i.now) }
     ensures written { written result ≡ canonical i.now }
@@ -236,10 +271,7 @@ fn code(i: &Inst) -> Code
         Inst::Alu { op, w, dst, src } => alu(*op, *w, dst, src),
         Inst::Test { w, dst, src } => test(*w, dst, src),
         Inst::Mov { w, dst, src } => mov(*w, dst, src),
-        Inst::Lea { w, dst, addr } => Code::new()
-            .size(*w)
-            .byte(0x8d)
-            .operand(*dst, &Rm::Mem(*addr)),
+        Inst::Lea { w, dst, addr } => lea(*w, *dst, addr),
         Inst::Xchg { w, dst, reg } => Code::new().pair(*w, 0x86).operand(*reg, dst),
         Inst::Inc { w, dst } => step(0x40, 0, *w, dst),
         Inst::Dec { w, dst } => step(0x48, 1, *w, dst),
@@ -261,22 +293,13 @@ fn code(i: &Inst) -> Code
             src,
         } => extend(*signed, *from, *to, *dst, src),
         Inst::Setcc { cond, dst } => Code::new().byte(0x0f).byte(0x90 + *cond).operand(0, dst),
-        Inst::Cmov { cond, dst, src } => Code::new()
-            .byte(0x0f)
-            .byte(0x40 + *cond)
-            .operand(*dst, src),
+        Inst::Cmov { cond, dst, src } => cmov(*cond, *dst, src),
         Inst::Jcc { cond, rel } => Code::new().byte(0x0f).byte(0x80 + *cond).four(*rel),
         Inst::Jmp { rel } => Code::new().byte(0xe9).four(*rel),
         Inst::JmpRm { target } => Code::new().byte(0xff).operand(4, target),
         Inst::Call { rel } => Code::new().byte(0xe8).four(*rel),
         Inst::CallRm { target } => Code::new().byte(0xff).operand(2, target),
-        Inst::Ret { pop } => {
-            if *pop == 0 {
-                Code::new().byte(0xc3)
-            } else {
-                Code::new().byte(0xc2).two(*pop)
-            }
-        }
+        Inst::Ret { pop } => ret(*pop),
         Inst::Leave => Code::new().byte(0xc9),
         Inst::Movs { w, rep } => string(0xa4, *w, *rep),
         Inst::Stos { w, rep } => string(0xaa, *w, *rep),
@@ -288,12 +311,18 @@ fn code(i: &Inst) -> Code
     }
 }
 
-/// Writes the canonical spelling, and answers its length.
+/// Writes the canonical spelling of a valid instruction, and answers its length, 1 to 15.
+///
+/// The canonical spelling is that of `docs/INSTRUCTIONS.md`. What stands in `out` behind it is left open.
 pub fn encode(i: &Inst, out: &mut [u8; 15]) -> u8
     requires { IsTrue (valid_of i.now) }
+    ensures length { result ≡ length (canonical i.now) }
     ensures short { result ≤ 15 }
     ensures written { take result out.new ≡ canonical i.now }
     ensures spelled { Spells (take result out.new) i.now }
+
+    // It is read as the instruction, whatever bytes follow.
+    ensures read_back { (rest : List ℕ) → decode_of (take result out.new ++ rest) ≡ Some (i.now, result) }
 {
     canonical_spelling();
     let code = code(i);

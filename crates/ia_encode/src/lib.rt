@@ -3,5 +3,10 @@
 
 mod code;
 mod encoding;
+mod laws;
 
 pub use encoding::encode;
+pub use laws::{direct_lengths, round_trip};
+
+#[cfg(test)]
+mod tests;

@@ -1,5 +1,5 @@
 use Rattle.std.proofs.Common.{◌-◌, ◌++◌, length, take, drop, sym, ◌∙◌, ap, refl, arith, length-take}
-use Rattle.br_word.specs.Memory.{Runs, Region}
+use Rattle.br_word.specs.Memory.{Runs}
 use Rattle.guest_mem.specs.View.{fetched}
 use Rattle.guest_mem.proofs.Places.{covers-place, covers-bounds, covers-within, bytes_at-None, bytes_at-Some}
 use Rattle.guest_mem.proofs.Numbers.{length-fetched, take-fetched}
@@ -14,7 +14,7 @@ pub copy_out-requires : goal.copy_out-requires
 copy_out-requires c =
     let r = c.index-area.result.now in
     let held = covers-place Runs c.args.at 1 c.self.inside.areas.items c.in-Some.place r
-        (rw (← c.self.view_is) at (sym c.code_place.ensures ∙ c.in-Some.is)) c.index-area.ensures in
+    (rw (← c.self.view_is) at (sym c.code_place.ensures ∙ c.in-Some.is)) c.index-area.ensures in
     let bounds = covers-bounds r c.args.at 1 held in
     covers-within r c.args.at 1 (length (take c.min-count.result c.args.into.now)) held
     (omega (arith, bounds, length-take c.min-count.result c.args.into.now, c.min-count.ensures, c.left.ensures))
@@ -35,7 +35,7 @@ pub returns-in-Some-clause-count : goal.returns-in-Some-clause-count
 returns-in-Some-clause-count c =
     let r = c.index-area.result.now in
     let e = bytes_at-Some Runs c.args.at 1 c.self.inside.areas.items c.in-Some.place r
-        (rw (← c.self.view_is) at (sym c.code_place.ensures ∙ c.in-Some.is)) c.index-area.ensures in
+    (rw (← c.self.view_is) at (sym c.code_place.ensures ∙ c.in-Some.is)) c.index-area.ensures in
     rw (← c.self.view_is)
     (length-fetched r.bytes (c.args.at - r.start) c.left.result c.min-count.result c.left.ensures c.min-count.ensures ∙ sym (ap (λ o. length (fetched o)) e))
 
@@ -43,7 +43,7 @@ pub returns-in-Some-clause-bytes : goal.returns-in-Some-clause-bytes
 returns-in-Some-clause-bytes c =
     let r = c.index-area.result.now in
     let e = bytes_at-Some Runs c.args.at 1 c.self.inside.areas.items c.in-Some.place r
-        (rw (← c.self.view_is) at (sym c.code_place.ensures ∙ c.in-Some.is)) c.index-area.ensures in
+    (rw (← c.self.view_is) at (sym c.code_place.ensures ∙ c.in-Some.is)) c.index-area.ensures in
     rw (← c.self.view_is)
     (ap (λ s. s ++ drop c.min-count.result c.args.into.now)
     (c.copy_out.ensures
