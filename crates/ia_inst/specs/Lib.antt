@@ -10,3 +10,4 @@ pub mod Act
 pub mod Meaning
 pub mod System
 pub mod Step
+pub mod Kinds

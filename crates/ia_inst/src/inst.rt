@@ -154,3 +154,14 @@ pub enum Inst {
     Int80,
     Nop,
 }
+
+/// How an instruction goes on into the written program.
+#[derive(Clone, Copy, Debug, PartialEq, Eq)]
+pub enum Kind {
+    /// It is lifted, and goes on to the next instruction.
+    Plain,
+    /// A native instruction: it is run as it stands.
+    Island,
+    /// It decides what comes next: Jcc, JMP, CALL and RET.
+    Transfer,
+}

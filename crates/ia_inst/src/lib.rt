@@ -2,10 +2,14 @@
 #![tactic(auto)]
 
 mod inst;
+mod kinds;
 mod opcode;
 mod prefixes;
+mod validity;
 
 pub use br_word::{Flags, GuestFault, Perms, ShiftOp, Width};
-pub use inst::{Addr, Count, Inst, Rm, Src};
+pub use inst::{Addr, Count, Inst, Kind, Rm, Src};
+pub use kinds::{kind, reads_flags};
 pub use opcode::{Binary, By, Constant, Opcode, Second, Simple};
 pub use prefixes::{Prefix, Prefixes};
+pub use validity::{canonical_spelling, valid};
