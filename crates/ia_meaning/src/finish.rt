@@ -1,0 +1,54 @@
+//! The last part of an instruction.
+
+ghost use Rattle.std.specs.Prelude.{◌≡◌, ℕ, ◌<◌, ◌^◌, IsTrue, List};
+ghost use Rattle.br_word.specs.Words.{bits_of};
+ghost use Rattle.ia_inst.specs.Canonical.{rm_valid};
+ghost use Rattle.ia_inst.specs.Act.{Changes, Past, Ends, perform};
+ghost use Rattle.ia_inst.specs.Meaning.{to_rm, no_changes};
+ghost use Rattle.ia_meaning.specs.Effect.{view, status_after, Goes};
+
+use br_word::Width;
+use guest_mem::Memory;
+use ia_inst::Rm;
+
+use crate::cpu::{Cpu, Refused, next_of};
+use crate::operand::write_rm;
+use crate::status::{Status, kept};
+
+// A value goes to its destination, the flags are set, and eip moves on.
+pub fn finish(
+    w: Width,
+    dst: &Rm,
+    v: u32,
+    after: Status,
+    len: u8,
+    cpu: &mut Cpu,
+    m: &mut Memory,
+) -> Result<(), Refused>
+    requires dst { IsTrue (rm_valid dst.now) }
+    requires value { v < 2 ^ bits_of w }
+    ensures { (changes : Changes) (c : ℕ) → after ≡ status_after changes cpu.old c → Goes (perform (to_rm w dst.now v cpu.old.regs (λ regs. Ends regs cpu.old.df changes (Past len))) c (view cpu.old) m.old.regions) result cpu.old m.old cpu.new m.new }
+{
+    let next = next_of(cpu, len);
+    write_rm(w, dst, v, &mut cpu.regs, m)?;
+    cpu.flags = after.flags;
+    cpu.known = after.known;
+    cpu.eip = next;
+    Ok(())
+}
+
+// The same with the flags as they are.
+pub fn finish_plain(
+    w: Width,
+    dst: &Rm,
+    v: u32,
+    len: u8,
+    cpu: &mut Cpu,
+    m: &mut Memory,
+) -> Result<(), Refused>
+    requires dst { IsTrue (rm_valid dst.now) }
+    requires value { v < 2 ^ bits_of w }
+    ensures { (c : ℕ) → Goes (perform (to_rm w dst.now v cpu.old.regs (λ regs. Ends regs cpu.old.df no_changes (Past len))) c (view cpu.old) m.old.regions) result cpu.old m.old cpu.new m.new }
+{
+    finish(w, dst, v, kept(cpu), len, cpu, m)
+}
