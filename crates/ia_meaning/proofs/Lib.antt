@@ -1,2 +1,3 @@
 pub mod Signs
 pub mod Products
+pub mod Valid

@@ -57,9 +57,15 @@ abbrev pub or_ends : Result (Unit {0}) Refused → End → End
 or_ends (Ok v) e = e
 or_ends (Err r) e = end_of r
 
--- what a store leaves, whatever follows it
-abbrev pub StoresAs : (Act → Act) → Result (Unit {0}) Refused → MemoryView → MemoryView → Type 0
-StoresAs act result m n = (go : Act) (c : ℕ) (u : state.Cpu) → perform (act go) c u m.regions ≡ or_ends result (perform go c u n.regions)
+-- what a load gives, or where it is refused
+abbrev pub Loads : Result ℕ Refused → ℕ → Option ℕ → Type 0
+Loads (Ok v) at loaded = loaded ≡ Some v
+Loads (Err r) at loaded = (loaded ≡ None) × (r ≡ refused.Access at)
+
+-- what a store leaves: all as it was where it is refused
+abbrev pub Stores : Result (Unit {0}) Refused → ℕ → Option (List Region) → MemoryView → MemoryView → Type 0
+Stores (Ok v) at stored old new = (stored ≡ Some new.regions) × (new ≡ record old { regions = new.regions })
+Stores (Err r) at stored old new = (stored ≡ None) × (r ≡ refused.Access at) × (new ≡ old)
 
 -- whatever follows, the act goes on with the registers and the memory that were written
 abbrev pub WritesAs : ((List ℕ → Act) → Act) → Result (Unit {0}) Refused → MemoryView → List ℕ → MemoryView → Type 0

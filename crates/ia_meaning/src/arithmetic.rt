@@ -1,19 +1,20 @@
 //! Sums, differences and logic.
 
-ghost use Rattle.std.specs.Prelude.{◌≡◌, ℕ, ◌-◌, ◌<◌, ◌^◌, IsTrue, bit_and};
+ghost use Rattle.std.specs.Prelude.{◌≡◌, ℕ, ◌<◌, ◌^◌, ◌==◌, if◌then◌else◌, IsTrue, List};
 ghost use Rattle.br_word.specs.Words.{bits_of};
 ghost use Rattle.ia_inst.specs.Canonical.{rm_valid};
 ghost use Rattle.ia_inst.specs.declared.inst.Inst.TheVariants as inst;
-ghost use Rattle.ia_inst.specs.Meaning.{alu, of_sum, of_logic, with_carry};
-ghost use Rattle.ia_meaning.specs.Effect.{view, Does, AsksFor};
+ghost use Rattle.ia_inst.specs.Act.{Past, Ends, perform};
+ghost use Rattle.ia_inst.specs.Meaning.{Result, alu, of_sum, of_logic, to_rm, with_carry};
+ghost use Rattle.ia_meaning.specs.Effect.{view, AsksFor, Goes, Does};
 ghost use Rattle.ia_meaning.specs.Valid.{source_valid};
 
 use br_word::{Sum, Width, add_flags, logic_flags, mask, sub_flags};
 use guest_mem::Memory;
 use ia_inst::{Rm, Src};
 
-use crate::cpu::{Cpu, Refused, next_of};
-use crate::finish::{finish, finish_plain};
+use crate::cpu::{Cpu, Refused};
+use crate::finish::{finish, finish_plain, settle};
 use crate::operand::{read_rm, read_src};
 use crate::status::{set, stepped};
 
@@ -51,6 +52,28 @@ fn carry_in(op: u8, cpu: &Cpu) -> bool
     (op == 2 || op == 3) && cpu.flags.cf
 }
 
+// Writes a sum and sets its flags, but for CMP, which sets its flags alone.
+fn put_sum(
+    op: u8,
+    w: Width,
+    dst: &Rm,
+    sum: &Sum,
+    len: u8,
+    cpu: &mut Cpu,
+    m: &mut Memory,
+) -> Result<(), Refused>
+    requires dst { IsTrue (rm_valid dst.now) }
+    requires value { sum.now.value < 2 ^ bits_of w }
+    ensures { (r : Result) (c : ℕ) → of_sum sum.now ≡ r → Goes (perform (if op == 7 then Ends cpu.old.regs cpu.old.df r.changes (Past len) else to_rm w dst.now r.value cpu.old.regs (λ regs. Ends regs cpu.old.df r.changes (Past len))) c (view cpu.old) m.old.regions) result cpu.old m.old cpu.new m.new }
+{
+    let after = set(sum.flags);
+    if op == 7 {
+        settle(after, len, cpu);
+        return Ok(());
+    }
+    finish(w, dst, sum.value, after, len, cpu, m)
+}
+
 #[tactic(auto, unfolding(ia_inst::specs::Meaning::meaning))]
 pub fn alu(
     op: u8,
@@ -69,14 +92,7 @@ pub fn alu(
     let a = read_rm(w, dst, &cpu.regs, m)?;
     let b = read_src(w, src, &cpu.regs, m)?;
     let sum = alu_sum(op, w, a, b, carry);
-    let after = set(sum.flags, cpu);
-    if op == 7 {
-        cpu.flags = after.flags;
-        cpu.known = after.known;
-        cpu.eip = next_of(cpu, len);
-        return Ok(());
-    }
-    finish(w, dst, sum.value, after, len, cpu, m)
+    put_sum(op, w, dst, &sum, len, cpu, m)
 }
 
 #[tactic(auto, unfolding(ia_inst::specs::Meaning::meaning))]
@@ -94,10 +110,7 @@ pub fn test(
 {
     let a = read_rm(w, dst, &cpu.regs, m)?;
     let b = read_src(w, src, &cpu.regs, m)?;
-    let after = set(logic_flags(w, a & b), cpu);
-    cpu.flags = after.flags;
-    cpu.known = after.known;
-    cpu.eip = next_of(cpu, len);
+    settle(set(logic_flags(w, a & b)), len, cpu);
     Ok(())
 }
 
@@ -137,5 +150,5 @@ pub fn neg(w: Width, dst: &Rm, len: u8, cpu: &mut Cpu, m: &mut Memory) -> Result
 {
     let a = read_rm(w, dst, &cpu.regs, m)?;
     let difference = sub_flags(w, 0, a, false);
-    finish(w, dst, difference.value, set(difference.flags, cpu), len, cpu, m)
+    finish(w, dst, difference.value, set(difference.flags), len, cpu, m)
 }

@@ -1,10 +1,10 @@
 //! The last part of an instruction.
 
-ghost use Rattle.std.specs.Prelude.{◌≡◌, ℕ, ◌<◌, ◌^◌, IsTrue, List};
+ghost use Rattle.std.specs.Prelude.{◌≡◌, ℕ, ◌+◌, ◌<◌, ◌^◌, IsTrue, List};
 ghost use Rattle.br_word.specs.Words.{bits_of};
 ghost use Rattle.ia_inst.specs.Canonical.{rm_valid};
-ghost use Rattle.ia_inst.specs.Act.{Changes, Past, Ends, perform};
-ghost use Rattle.ia_inst.specs.Meaning.{to_rm, no_changes};
+ghost use Rattle.ia_inst.specs.Act.{Past, Ends, perform};
+ghost use Rattle.ia_inst.specs.Meaning.{Result, wrap, to_rm, no_changes};
 ghost use Rattle.ia_meaning.specs.Effect.{view, status_after, Goes};
 
 use br_word::Width;
@@ -14,6 +14,15 @@ use ia_inst::Rm;
 use crate::cpu::{Cpu, Refused, next_of};
 use crate::operand::write_rm;
 use crate::status::{Status, kept};
+
+// The flags are set, and eip moves on.
+pub fn settle(after: Status, len: u8, cpu: &mut Cpu)
+    ensures { cpu.new ≡ record cpu.old { flags = after.flags; known = after.known; eip = wrap (cpu.old.eip + len) } }
+{
+    cpu.eip = next_of(cpu, len);
+    cpu.flags = after.flags;
+    cpu.known = after.known;
+}
 
 // A value goes to its destination, the flags are set, and eip moves on.
 pub fn finish(
@@ -27,13 +36,10 @@ pub fn finish(
 ) -> Result<(), Refused>
     requires dst { IsTrue (rm_valid dst.now) }
     requires value { v < 2 ^ bits_of w }
-    ensures { (changes : Changes) (c : ℕ) → after ≡ status_after changes cpu.old c → Goes (perform (to_rm w dst.now v cpu.old.regs (λ regs. Ends regs cpu.old.df changes (Past len))) c (view cpu.old) m.old.regions) result cpu.old m.old cpu.new m.new }
+    ensures { (r : Result) (c : ℕ) → v ≡ r.value → after ≡ status_after r.changes cpu.old c → Goes (perform (to_rm w dst.now r.value cpu.old.regs (λ regs. Ends regs cpu.old.df r.changes (Past len))) c (view cpu.old) m.old.regions) result cpu.old m.old cpu.new m.new }
 {
-    let next = next_of(cpu, len);
     write_rm(w, dst, v, &mut cpu.regs, m)?;
-    cpu.flags = after.flags;
-    cpu.known = after.known;
-    cpu.eip = next;
+    settle(after, len, cpu);
     Ok(())
 }
 

@@ -4,6 +4,7 @@
 mod arithmetic;
 mod control;
 mod cpu;
+mod execute;
 mod finish;
 mod moves;
 mod multiply;
@@ -16,3 +17,4 @@ mod wide;
 
 pub use br_word::{Flags, GuestFault};
 pub use cpu::{Cpu, Outcome};
+pub use execute::execute;

@@ -1,6 +1,6 @@
 //! MUL, IMUL, DIV and IDIV.
 
-ghost use Rattle.std.specs.Prelude.{◌≡◌, ℕ, ◌*◌, ◌/◌, ◌%◌, ◌^◌, ◌<◌, IsTrue, Ok, Option};
+ghost use Rattle.std.specs.Prelude.{◌≡◌, ℕ, ◌*◌, ◌/◌, ◌%◌, ◌^◌, ◌<◌, Bool, IsTrue, Ok, Option};
 ghost use Rattle.ia_inst.specs.Canonical.{rm_valid, by_valid};
 ghost use Rattle.ia_inst.specs.declared.inst.Inst.TheVariants as inst;
 ghost use Rattle.ia_inst.specs.Act.{Past, Ends, perform};
@@ -12,7 +12,8 @@ use br_word::{Flags, Width};
 use guest_mem::Memory;
 use ia_inst::Rm;
 
-use crate::cpu::{Cpu, Refused, next_of};
+use crate::cpu::{Cpu, Refused};
+use crate::finish::settle;
 use crate::operand::read_rm;
 use crate::status::{Status, changed};
 use crate::wide::{divide, divide_signed, multiply, multiply_signed, overflows};
@@ -53,14 +54,12 @@ fn no_status(cpu: &Cpu, choice: u8) -> Status
 
 // Puts a product into edx and eax.
 fn put_product(p: u64, over: bool, len: u8, cpu: &mut Cpu, choice: u8)
-    ensures { (m : MemoryView) → Goes (perform (Ends (with_pair (p / 2 ^ 32) (p % 2 ^ 32) cpu.old.regs) cpu.old.df (product_changes over) (Past len)) choice (view cpu.old) m.regions) (Ok tt) cpu.old m cpu.new m }
+    ensures { (n : ℕ) (big : Bool) (m : MemoryView) → p ≡ n → over ≡ big → Goes (perform (Ends (with_pair (n / 2 ^ 32) (n % 2 ^ 32) cpu.old.regs) cpu.old.df (product_changes big) (Past len)) choice (view cpu.old) m.regions) (Ok tt) cpu.old m cpu.new m }
 {
     let after = product_status(over, cpu, choice);
-    cpu.regs[0] = p as u32;
+    cpu.regs[0] = (p % 0x1_0000_0000) as u32;
     cpu.regs[2] = (p >> 32) as u32;
-    cpu.flags = after.flags;
-    cpu.known = after.known;
-    cpu.eip = next_of(cpu, len);
+    settle(after, len, cpu);
 }
 
 // Puts a quotient into eax and a remainder into edx.
@@ -73,9 +72,7 @@ fn put_quotient(q: Option<(u32, u32)>, len: u8, cpu: &mut Cpu, choice: u8) -> Re
             let after = no_status(cpu, choice);
             cpu.regs[0] = quotient;
             cpu.regs[2] = remainder;
-            cpu.flags = after.flags;
-            cpu.known = after.known;
-            cpu.eip = next_of(cpu, len);
+            settle(after, len, cpu);
             Ok(())
         }
     }
@@ -152,8 +149,6 @@ pub fn imul(
     let a = factor(by, dst, &cpu.regs);
     let after = product_status(overflows(a, b), cpu, choice);
     cpu.regs[dst as usize] = a.wrapping_mul(b);
-    cpu.flags = after.flags;
-    cpu.known = after.known;
-    cpu.eip = next_of(cpu, len);
+    settle(after, len, cpu);
     Ok(())
 }

@@ -3,9 +3,9 @@
 ghost use Rattle.std.specs.Prelude.{◌≡◌, ℕ, ◌+◌, ◌*◌, ◌<◌, ◌≤◌, ◌^◌, IsTrue, List, IfOk, OnErr, length};
 ghost use Rattle.br_word.specs.Words.{bits_of, size_of};
 ghost use Rattle.ia_inst.specs.Canonical.{base_valid, index_valid, address_valid, rm_valid};
-ghost use Rattle.ia_inst.specs.Act.{Load, Store};
+ghost use Rattle.br_word.specs.Memory.{load, store};
 ghost use Rattle.ia_inst.specs.Meaning.{reg_value, reg_with, of_rm, of_src, to_rm, address_of, base_of, index_of};
-ghost use Rattle.ia_meaning.specs.Effect.{GoesOn, StoresAs, WritesAs};
+ghost use Rattle.ia_meaning.specs.Effect.{Loads, Stores, GoesOn, WritesAs};
 ghost use Rattle.ia_meaning.specs.Valid.{source_valid};
 
 use br_word::Width;
@@ -92,7 +92,7 @@ pub fn address(regs: &[u32; 8], a: &Addr) -> u32
 
 // Reads from memory.
 pub fn load(m: &Memory, at: u32, w: Width) -> Result<u32, Refused>
-    ensures value { GoesOn (Load at (size_of w)) result m.now.regions }
+    ensures value { Loads result at (load at (size_of w) m.now.regions) }
     ensures fits { IfOk result (λ v. v < 2 ^ bits_of w) }
 {
     match m.load(at, w) {
@@ -103,9 +103,7 @@ pub fn load(m: &Memory, at: u32, w: Width) -> Result<u32, Refused>
 
 // Writes to memory.
 pub fn store(m: &mut Memory, at: u32, w: Width, v: u32) -> Result<(), Refused>
-    ensures writes { StoresAs (Store at (size_of w) v) result m.old m.new }
-    ensures rest { m.new ≡ record m.old { regions = m.new.regions } }
-    ensures err { OnErr result (m.new ≡ m.old) }
+    ensures { Stores result at (store at (size_of w) v m.old.regions) m.old m.new }
 {
     if m.store(at, w, v) {
         Ok(())

@@ -12,8 +12,8 @@ use br_word::{Flags, ShiftOp, Width, shift_result};
 use guest_mem::Memory;
 use ia_inst::{Count, Rm};
 
-use crate::cpu::{Cpu, Refused, next_of};
-use crate::finish::finish;
+use crate::cpu::{Cpu, Refused};
+use crate::finish::{finish, settle};
 use crate::operand::{read_rm, reg};
 use crate::status::{Status, changed, chosen, kept};
 use crate::wide::{rotate_left, rotate_right};
@@ -154,19 +154,19 @@ pub fn sahf(len: u8, cpu: &mut Cpu)
     ensures { (c : ℕ) (m : MemoryView) → Does inst.Sahf len c (Ok tt) cpu.old m cpu.new m }
 {
     let ah = reg(&cpu.regs, Width::B8, 4);
-    cpu.flags = Flags {
+    let flags = Flags {
         cf: ah % 2 == 1,
         pf: (ah >> 2) % 2 == 1,
         zf: (ah >> 6) % 2 == 1,
         sf: (ah >> 7) % 2 == 1,
         of: cpu.flags.of,
     };
-    cpu.known = Flags {
+    let known = Flags {
         cf: true,
         pf: true,
         zf: true,
         sf: true,
         of: cpu.known.of,
     };
-    cpu.eip = next_of(cpu, len);
+    settle(Status { flags, known }, len, cpu);
 }

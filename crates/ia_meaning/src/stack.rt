@@ -1,11 +1,12 @@
 //! The stack: PUSH, POP and LEAVE.
 
-ghost use Rattle.std.specs.Prelude.{◌≡◌, ℕ, ◌<◌, ◌^◌, IsTrue, OnErr};
+ghost use Rattle.std.specs.Prelude.{◌≡◌, ℕ, ◌+◌, ◌-◌, ◌^◌, IsTrue, OnOk, OnErr, get_or, set};
 ghost use Rattle.br_word.specs.declared.types.Width.TheVariants.{B32};
+ghost use Rattle.br_word.specs.Memory.{store};
 ghost use Rattle.ia_inst.specs.Canonical.{rm_valid};
 ghost use Rattle.ia_inst.specs.declared.inst.Inst.TheVariants as inst;
-ghost use Rattle.ia_inst.specs.Meaning.{pushed};
-ghost use Rattle.ia_meaning.specs.Effect.{WritesAs, Does};
+ghost use Rattle.ia_inst.specs.Meaning.{wrap};
+ghost use Rattle.ia_meaning.specs.Effect.{Stores, Does};
 ghost use Rattle.ia_meaning.specs.Valid.{source_valid};
 
 use br_word::Width;
@@ -17,9 +18,9 @@ use crate::operand::{load, read_src, store, write_rm};
 
 // Pushes a value. Where that is refused, nothing changes.
 pub fn push_value(v: u32, regs: &mut [u32; 8], m: &mut Memory) -> Result<(), Refused>
-    ensures writes { WritesAs (pushed v regs.old) result m.old regs.new m.new }
-    ensures rest { m.new ≡ record m.old { regions = m.new.regions } }
-    ensures err { OnErr result ((regs.new ≡ regs.old) × (m.new ≡ m.old)) }
+    ensures stored { let top = wrap (get_or regs.old 4 0 + 2 ^ 32 - 4) in Stores result top (store top 4 v m.old.regions) m.old m.new }
+    ensures ok { OnOk result (regs.new ≡ set regs.old 4 (wrap (get_or regs.old 4 0 + 2 ^ 32 - 4))) }
+    ensures err { OnErr result (regs.new ≡ regs.old) }
 {
     let top = regs[4].wrapping_sub(4);
     store(m, top, Width::B32, v)?;

@@ -1,8 +1,9 @@
 //! Flags after a step, with their marks.
 
-ghost use Rattle.std.specs.Prelude.{◌≡◌, ◌<◌, ℕ};
+ghost use Rattle.std.specs.Prelude.{◌≡◌, ◌<◌, true};
+ghost use Rattle.br_word.specs.State.{all_flags};
 ghost use Rattle.ia_inst.specs.Act.{choice_bit, flag_after};
-ghost use Rattle.ia_inst.specs.Meaning.{no_changes, all_set, of_step, set_if};
+ghost use Rattle.ia_inst.specs.Meaning.{set_if};
 ghost use Rattle.ia_meaning.specs.Effect.{status_after, changes_to};
 
 use br_word::{Flags, Sum};
@@ -26,7 +27,7 @@ const ALL: Flags = Flags {
 
 // All flags as they are.
 pub fn kept(cpu: &Cpu) -> Status
-    ensures { (c : ℕ) → result ≡ status_after no_changes cpu.now c }
+    ensures { result ≡ record { flags = cpu.now.flags; known = cpu.now.known } }
 {
     Status {
         flags: cpu.flags,
@@ -35,15 +36,15 @@ pub fn kept(cpu: &Cpu) -> Status
 }
 
 // All flags set.
-pub fn set(flags: Flags, cpu: &Cpu) -> Status
-    ensures { (c : ℕ) → result ≡ status_after (all_set flags) cpu.now c }
+pub fn set(flags: Flags) -> Status
+    ensures { result ≡ record { flags = flags; known = all_flags true } }
 {
     Status { flags, known: ALL }
 }
 
 // All flags set but CF, which is as it is.
 pub fn stepped(sum: &Sum, cpu: &Cpu) -> Status
-    ensures { (c : ℕ) → result ≡ status_after (of_step sum.now).changes cpu.now c }
+    ensures { result ≡ record { flags = record sum.now.flags { cf = cpu.now.flags.cf }; known = record (all_flags true) { cf = cpu.now.known.cf } } }
 {
     Status {
         flags: Flags {
