@@ -9,14 +9,13 @@ ghost use Rattle.ia_inst.specs.Meaning.{Result, alu, of_sum, of_logic, to_rm, wi
 ghost use Rattle.ia_meaning.specs.Effect.{view, AsksFor, Goes, Does};
 ghost use Rattle.ia_meaning.specs.Valid.{source_valid};
 
-use br_word::{Sum, Width, add_flags, logic_flags, mask, sub_flags};
-use guest_mem::Memory;
-use ia_inst::{Rm, Src};
-
 use crate::cpu::{Cpu, Refused};
 use crate::finish::{finish, finish_plain, settle};
 use crate::operand::{read_rm, read_src};
 use crate::status::{set, stepped};
+use br_word::{Sum, Width, add_flags, logic_flags, mask, sub_flags};
+use guest_mem::Memory;
+use ia_inst::{Rm, Src};
 
 fn logic(w: Width, value: u32) -> Sum
     requires { value < 2 ^ bits_of w }
@@ -131,7 +130,15 @@ pub fn dec(w: Width, dst: &Rm, len: u8, cpu: &mut Cpu, m: &mut Memory) -> Result
 {
     let a = read_rm(w, dst, &cpu.regs, m)?;
     let difference = sub_flags(w, a, 1, false);
-    finish(w, dst, difference.value, stepped(&difference, cpu), len, cpu, m)
+    finish(
+        w,
+        dst,
+        difference.value,
+        stepped(&difference, cpu),
+        len,
+        cpu,
+        m,
+    )
 }
 
 #[tactic(auto, unfolding(ia_inst::specs::Meaning::meaning))]

@@ -7,14 +7,13 @@ ghost use Rattle.ia_inst.specs.Meaning.{even_condition, condition};
 ghost use Rattle.guest_mem.specs.View.{MemoryView};
 ghost use Rattle.ia_meaning.specs.Effect.{view, AsksFor, Does};
 
-use br_word::Width;
-use guest_mem::Memory;
-use ia_inst::Rm;
-
 use crate::cpu::{Cpu, Refused, next_of};
 use crate::finish::finish_plain;
 use crate::operand::{load, read_rm};
 use crate::stack::push_value;
+use br_word::Width;
+use guest_mem::Memory;
+use ia_inst::Rm;
 
 // A condition by its number without the lowest bit (SDM volume 1, appendix B).
 fn even_condition(pair: u8, cpu: &Cpu) -> bool
@@ -122,4 +121,11 @@ pub fn ret(pop: u16, cpu: &mut Cpu, m: &Memory) -> Result<(), Refused>
     cpu.regs[4] = cpu.regs[4].wrapping_add(4 + pop as u32);
     cpu.eip = to;
     Ok(())
+}
+
+#[tactic(auto, unfolding(ia_inst::specs::Meaning::meaning))]
+pub fn nop(len: u8, cpu: &mut Cpu)
+    ensures { (c : ℕ) (m : MemoryView) → Does inst.Nop len c (Ok tt) cpu.old m cpu.new m }
+{
+    cpu.eip = next_of(cpu, len);
 }

@@ -7,13 +7,12 @@ ghost use Rattle.ia_inst.specs.Act.{Past, Ends, perform};
 ghost use Rattle.ia_inst.specs.Meaning.{Result, wrap, to_rm, no_changes};
 ghost use Rattle.ia_meaning.specs.Effect.{view, status_after, Goes};
 
-use br_word::Width;
-use guest_mem::Memory;
-use ia_inst::Rm;
-
 use crate::cpu::{Cpu, Refused, next_of};
 use crate::operand::write_rm;
 use crate::status::{Status, kept};
+use br_word::Width;
+use guest_mem::Memory;
+use ia_inst::Rm;
 
 // The flags are set, and eip moves on.
 pub fn settle(after: Status, len: u8, cpu: &mut Cpu)

@@ -4,7 +4,7 @@
 mod arithmetic;
 mod control;
 mod cpu;
-mod execute;
+mod dispatch;
 mod finish;
 mod moves;
 mod multiply;
@@ -17,4 +17,4 @@ mod wide;
 
 pub use br_word::{Flags, GuestFault};
 pub use cpu::{Cpu, Outcome};
-pub use execute::execute;
+pub use dispatch::execute;

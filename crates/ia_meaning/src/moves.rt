@@ -9,13 +9,12 @@ ghost use Rattle.guest_mem.specs.View.{MemoryView};
 ghost use Rattle.ia_meaning.specs.Effect.{Does};
 ghost use Rattle.ia_meaning.specs.Valid.{source_valid};
 
-use br_word::{Width, mask};
-use guest_mem::Memory;
-use ia_inst::{Addr, Rm, Src};
-
 use crate::cpu::{Cpu, Refused, next_of};
 use crate::finish::finish_plain;
 use crate::operand::{address, read_rm, read_src, reg, set_reg, write_rm};
+use br_word::{Width, mask};
+use guest_mem::Memory;
+use ia_inst::{Addr, Rm, Src};
 
 #[tactic(auto, unfolding(ia_inst::specs::Meaning::meaning))]
 pub fn mov(

@@ -8,15 +8,14 @@ ghost use Rattle.ia_inst.specs.Meaning.{pair_of, with_pair, divides, muldiv, fac
 ghost use Rattle.guest_mem.specs.View.{MemoryView};
 ghost use Rattle.ia_meaning.specs.Effect.{view, status_after, Goes, Does};
 
-use br_word::{Flags, Width};
-use guest_mem::Memory;
-use ia_inst::Rm;
-
 use crate::cpu::{Cpu, Refused};
 use crate::finish::settle;
 use crate::operand::read_rm;
 use crate::status::{Status, changed};
 use crate::wide::{divide, divide_signed, multiply, multiply_signed, overflows};
+use br_word::{Flags, Width};
+use guest_mem::Memory;
+use ia_inst::Rm;
 
 // CF and OF say whether a product is too large, and the other flags are left undefined.
 fn product_status(over: bool, cpu: &Cpu, choice: u8) -> Status

@@ -8,11 +8,10 @@ ghost use Rattle.ia_inst.specs.Meaning.{reg_value, reg_with, of_rm, of_src, to_r
 ghost use Rattle.ia_meaning.specs.Effect.{Loads, Stores, GoesOn, WritesAs};
 ghost use Rattle.ia_meaning.specs.Valid.{source_valid};
 
+use crate::cpu::Refused;
 use br_word::Width;
 use guest_mem::Memory;
 use ia_inst::{Addr, Rm, Src};
-
-use crate::cpu::Refused;
 
 // The value of a register, or of a part of one.
 pub fn reg(regs: &[u32; 8], w: Width, r: u8) -> u32

@@ -8,15 +8,14 @@ ghost use Rattle.ia_inst.specs.Meaning.{count_of, shifted, rotated, rotate_chang
 ghost use Rattle.guest_mem.specs.View.{MemoryView};
 ghost use Rattle.ia_meaning.specs.Effect.{status_after, Does};
 
-use br_word::{Flags, ShiftOp, Width, shift_result};
-use guest_mem::Memory;
-use ia_inst::{Count, Rm};
-
 use crate::cpu::{Cpu, Refused};
 use crate::finish::{finish, settle};
 use crate::operand::{read_rm, reg};
 use crate::status::{Status, changed, chosen, kept};
 use crate::wide::{rotate_left, rotate_right};
+use br_word::{Flags, ShiftOp, Width, shift_result};
+use guest_mem::Memory;
+use ia_inst::{Count, Rm};
 
 // A value, and the flags after it.
 #[derive(Clone, Copy, Debug)]
@@ -96,7 +95,11 @@ fn rotate_status(right: bool, r: u32, n: u32, cpu: &Cpu, choice: u8) -> Status
             pf: cpu.flags.pf,
             zf: cpu.flags.zf,
             sf: cpu.flags.sf,
-            of: if n == 1 { top != below } else { chosen(choice, 4) },
+            of: if n == 1 {
+                top != below
+            } else {
+                chosen(choice, 4)
+            },
         },
         known: Flags {
             cf: true,

@@ -9,12 +9,11 @@ ghost use Rattle.ia_inst.specs.Meaning.{wrap};
 ghost use Rattle.ia_meaning.specs.Effect.{Stores, Does};
 ghost use Rattle.ia_meaning.specs.Valid.{source_valid};
 
+use crate::cpu::{Cpu, Refused, next_of};
+use crate::operand::{load, read_src, store, write_rm};
 use br_word::Width;
 use guest_mem::Memory;
 use ia_inst::{Rm, Src};
-
-use crate::cpu::{Cpu, Refused, next_of};
-use crate::operand::{load, read_src, store, write_rm};
 
 // Pushes a value. Where that is refused, nothing changes.
 pub fn push_value(v: u32, regs: &mut [u32; 8], m: &mut Memory) -> Result<(), Refused>

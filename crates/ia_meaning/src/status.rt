@@ -6,9 +6,8 @@ ghost use Rattle.ia_inst.specs.Act.{choice_bit, flag_after};
 ghost use Rattle.ia_inst.specs.Meaning.{set_if};
 ghost use Rattle.ia_meaning.specs.Effect.{status_after, changes_to};
 
-use br_word::{Flags, Sum};
-
 use crate::cpu::Cpu;
+use br_word::{Flags, Sum};
 
 // The flags and which of them are defined.
 #[derive(Clone, Copy, Debug)]

@@ -7,11 +7,10 @@ ghost use Rattle.ia_inst.specs.Meaning.{moved, iterated};
 ghost use Rattle.guest_mem.specs.View.{MemoryView};
 ghost use Rattle.ia_meaning.specs.Effect.{view, Goes, Does};
 
-use br_word::Width;
-use guest_mem::Memory;
-
 use crate::cpu::{Cpu, Refused, next_of};
 use crate::operand::{load, reg, store};
+use br_word::Width;
+use guest_mem::Memory;
 
 // The next place of a string.
 fn moved(df: bool, w: Width, at: u32) -> u32

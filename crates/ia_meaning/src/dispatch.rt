@@ -9,28 +9,20 @@ ghost use Rattle.ia_inst.specs.Meaning.{meaning};
 ghost use Rattle.ia_inst.specs.declared.inst.Inst.TheVariants as inst;
 ghost use Rattle.ia_meaning.specs.Effect.{view, some_unmarked, Does, Comes};
 
-use br_word::{Flags, GuestFault};
-use guest_mem::Memory;
-use ia_inst::{Inst, reads_flags};
-
 use crate::arithmetic::{alu, dec, inc, neg, not, test};
-use crate::control::{call, call_rm, cmov, jcc, jmp, jmp_rm, ret, setcc};
+use crate::control::{call, call_rm, cmov, jcc, jmp, jmp_rm, nop, ret, setcc};
 use crate::cpu::{Cpu, Outcome, Refused, next_of};
 use crate::moves::{cdq, cwde, extend, lea, mov, xchg};
 use crate::multiply::{imul, muldiv};
 use crate::shift::{rotate, sahf, shift};
 use crate::stack::{leave, pop, push};
 use crate::string::{clear_direction, movs, set_direction, stos};
+use br_word::{Flags, GuestFault};
+use guest_mem::Memory;
+use ia_inst::{Inst, reads_flags};
 
 // The instruction is carried out, or refused with nothing changed. A trap is left to the caller.
-#[tactic(auto, unfolding(ia_inst::specs::Meaning::meaning))]
-fn carry_out(
-    i: &Inst,
-    len: u8,
-    cpu: &mut Cpu,
-    m: &mut Memory,
-    choice: u8,
-) -> Result<(), Refused>
+fn carry_out(i: &Inst, len: u8, cpu: &mut Cpu, m: &mut Memory, choice: u8) -> Result<(), Refused>
     requires valid { IsTrue (valid_of i.now) }
     requires no_trap { i.now ≡ inst.Int80 → ⊥ }
     ensures { Does i.now len choice result cpu.old m.old cpu.new m.new }
@@ -52,12 +44,8 @@ fn carry_out(
         Inst::Pop { dst } => pop(dst, len, cpu, m),
         Inst::MulDiv { op, src } => muldiv(*op, src, len, cpu, m, choice),
         Inst::Imul { dst, src, by } => imul(*dst, src, *by, len, cpu, m, choice),
-        Inst::Shift { op, w, dst, count } => {
-            shift(*op, *w, dst, count, len, cpu, m, choice)
-        }
-        Inst::Rotate { right, dst, count } => {
-            rotate(*right, dst, count, len, cpu, m, choice)
-        }
+        Inst::Shift { op, w, dst, count } => { shift(*op, *w, dst, count, len, cpu, m, choice) }
+        Inst::Rotate { right, dst, count } => { rotate(*right, dst, count, len, cpu, m, choice) }
         Inst::Cwde => {
             cwde(len, cpu);
             Ok(())
@@ -66,9 +54,13 @@ fn carry_out(
             cdq(len, cpu);
             Ok(())
         }
-        Inst::Extend { signed, from, to, dst, src } => {
-            extend(*signed, *from, *to, *dst, src, len, cpu, m)
-        }
+        Inst::Extend {
+            signed,
+            from,
+            to,
+            dst,
+            src,
+        } => { extend(*signed, *from, *to, *dst, src, len, cpu, m) }
         Inst::Setcc { cond, dst } => setcc(*cond, dst, len, cpu, m),
         Inst::Cmov { cond, dst, src } => cmov(*cond, *dst, src, len, cpu, m),
         Inst::Jcc { cond, rel } => {
@@ -98,10 +90,11 @@ fn carry_out(
             sahf(len, cpu);
             Ok(())
         }
-        Inst::Nop | Inst::Int80 => {
-            cpu.eip = next_of(cpu, len);
+        Inst::Nop => {
+            nop(len, cpu);
             Ok(())
         }
+        Inst::Int80 => Ok(()),
     }
 }
 
@@ -124,6 +117,17 @@ fn reads_undefined(i: &Inst, known: &Flags) -> bool
     some_undefined(reads_flags(i), known)
 }
 
+// Counts the step where it reads a flag that is not defined.
+fn count_undefined(i: &Inst, cpu: &mut Cpu)
+    requires valid { IsTrue (valid_of i.now) }
+    requires room { cpu.old.undefined < 2 ^ 64 - 1 }
+    ensures { cpu.new ≡ record cpu.old { undefined = cpu.old.undefined + bit (some_unmarked (flags_read i.now) cpu.old.known) } }
+{
+    if reads_undefined(i, &cpu.known) {
+        cpu.undefined += 1;
+    }
+}
+
 /// Carries out a valid instruction of `len` bytes, which stands at eip.
 ///
 /// Flags that it leaves undefined take their values from bits 0 to 4 of `choice`: CF, PF, ZF, SF and
@@ -131,15 +135,14 @@ fn reads_undefined(i: &Inst, known: &Flags) -> bool
 /// the answer where an access is not allowed, with its address, or where a division has no quotient of
 /// 32 bits, with eip: registers, flags, eip and memory are then as they were. In every case the count
 /// `undefined` rises by one where the instruction reads a flag that is not defined, and else stays.
+#[tactic(auto, unfolding(ia_inst::specs::Meaning::meaning))]
 pub fn execute(i: &Inst, len: u8, cpu: &mut Cpu, m: &mut Memory, choice: u8) -> Outcome
     requires valid { IsTrue (valid_of i.now) }
     requires room { cpu.old.undefined < 2 ^ 64 - 1 }
     ensures effect { Comes (perform (meaning i.now len cpu.old.regs cpu.old.eip cpu.old.df) choice (view cpu.old) m.old.regions) result cpu.old m.old cpu.new m.new }
     ensures undefined { cpu.new.undefined ≡ cpu.old.undefined + bit (some_unmarked (flags_read i.now) cpu.old.known) }
 {
-    if reads_undefined(i, &cpu.known) {
-        cpu.undefined += 1;
-    }
+    count_undefined(i, cpu);
     if let Inst::Int80 = i {
         cpu.eip = next_of(cpu, len);
         return Outcome::Trap;
