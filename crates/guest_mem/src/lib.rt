@@ -1,0 +1,6 @@
+//! Stand-in.
+#![tactic(auto)]
+
+mod memory;
+
+pub use memory::Memory;
