@@ -33,7 +33,7 @@ pub fn bits(w: Width) -> u32
 }
 
 // All ones.
-pub fn mask(w: Width) -> u32
+fn mask(w: Width) -> u32
     ensures { result ≡ 2 ^ bits_of w - 1 }
 {
     match w {

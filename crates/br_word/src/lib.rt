@@ -5,5 +5,5 @@
 mod flags;
 mod types;
 
-pub use flags::{Shifted, Sum, add_flags, bits, logic_flags, mask, shift_result, sub_flags};
+pub use flags::{Shifted, Sum, add_flags, logic_flags, shift_result, sub_flags};
 pub use types::{Flags, GuestFault, Perms, ShiftOp, Width};

@@ -1,6 +1,0 @@
-//! Stand-in.
-#![tactic(auto)]
-
-mod memory;
-
-pub use memory::Memory;
