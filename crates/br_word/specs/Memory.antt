@@ -1,5 +1,5 @@
 -- Memory: regions of bytes with permissions, and the accesses that they allow.
-use Rattle.std.specs.Prelude.{ℕ, ◌+◌, ◌-◌, ◌*◌, ◌≤◌, Bool, ◌&&◌, nat_le, if◌then◌else◌, List, [], ◌∷◌, ◌++◌, length, take, drop, replicate, Option, Some, None, option_map}
+use Rattle.std.specs.Prelude.{ℕ, ◌+◌, ◌-◌, ◌*◌, Bool, ◌&&◌, nat_eq, nat_le, if◌then◌else◌, List, [], ◌∷◌, ◌++◌, length, take, drop, replicate, Option, Some, None, option_map}
 use Rattle.std.specs.Int.{bytes_low_first}
 use Rattle.br_word.specs.declared.types.Perms.{Perms}
 
@@ -53,3 +53,7 @@ load at n rs = option_map (λ bs. number_of (take n bs)) (bytes_at Reads at n rs
 
 abbrev pub store : ℕ → ℕ → ℕ → List Region → Option (List Region)
 store at n v rs = written at (bytes_of n v) rs
+
+-- the region that starts there holds so many bytes, the new ones zero
+abbrev pub resized : ℕ → ℕ → Region → Region
+resized start size r = if nat_eq r.start start then record r { bytes = take size (r.bytes ++ zeros size) } else r

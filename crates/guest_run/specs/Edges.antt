@@ -1,20 +1,20 @@
 -- The control-flow edges of a run: the address of each transfer and the address to which it led.
 use Rattle.std.specs.Prelude.{ℕ, zero, suc, Bool, true, false, List, [], ◌∷◌, ◌++◌}
 use Rattle.ia_inst.specs.declared.inst.Inst.{Inst}
-use Rattle.ia_inst.specs.declared.inst.Inst.TheVariants.{Jcc, Jmp, JmpRm, Call, CallRm, Ret}
+use Rattle.ia_inst.specs.declared.inst.Kind.{Kind}
+use Rattle.ia_inst.specs.declared.inst.Kind.TheVariants.{Transfer}
+use Rattle.ia_inst.specs.Kinds.{kind_of}
 use Rattle.br_word.specs.State.{State, Stop, Running, Exited, Faulted}
 use Rattle.ia_inst.specs.Step.{Found, NoCode, NoInst, There, found, step_way, step}
 use Rattle.ia_inst.specs.System.{Way, On, Bad}
 use Rattle.guest_run.specs.Opening.{guest_of, opening_of}
 
+abbrev pub is_transfer_kind : Kind → Bool
+is_transfer_kind Transfer = true
+is_transfer_kind _ = false
+
 abbrev pub is_transfer : Inst → Bool
-is_transfer (Jcc c rel) = true
-is_transfer (Jmp rel) = true
-is_transfer (JmpRm target) = true
-is_transfer (Call rel) = true
-is_transfer (CallRm target) = true
-is_transfer (Ret pop) = true
-is_transfer i = false
+is_transfer i = is_transfer_kind (kind_of i)
 
 abbrev pub Edge : Type 0
 Edge = ℕ × ℕ

@@ -1,15 +1,11 @@
 -- The state in which a guest begins (System V ABI, i386 supplement, process initialization).
-use Rattle.std.specs.Prelude.{ℕ, ◌+◌, ◌-◌, ◌*◌, ◌/◌, ◌≤◌, ◌<◌, Bool, true, false, List, [], ◌∷◌, ◌++◌, length, map, sum, flat_map, All, codes, Result, Ok, Err}
-use Rattle.br_word.specs.Memory.{Region, bytes_of, zeros}
+use Rattle.std.specs.Prelude.{ℕ, ◌+◌, ◌-◌, ◌*◌, ◌/◌, ◌≤◌, true, false, List, [], ◌∷◌, ◌++◌, length, flat_map, codes, Result, Ok, Err}
+use Rattle.br_word.specs.Memory.{bytes_of, zeros}
 use Rattle.br_word.specs.State.{State, Running, all_flags}
-use Rattle.elf_read.specs.declared.exe.Segment.{Segment}
 use Rattle.elf_read.specs.declared.exe.Exe.{Exe}
 use Rattle.elf_read.specs.declared.exe.Reach.TheVariants.{Guest}
 use Rattle.elf_read.specs.Elf.{Refused, elf}
-
--- a segment in memory: the bytes of the file, and zeros behind them
-abbrev pub region_of : Segment → Region
-region_of s = record { start = s.start; perms = s.perms; bytes = s.bytes ++ zeros (s.size - length s.bytes) }
+use Rattle.guest_mem.specs.Regions.{opening_regions}
 
 -- the arguments of a guest that is given these words
 abbrev pub arguments : List (List ℕ) → List (List ℕ)
@@ -43,19 +39,6 @@ stack_words args = bytes_of 4 (length args) ++ (text_places (first_text args) ar
 -- what stands from the stack pointer to the end of the stack
 abbrev pub stack_top : List (List ℕ) → List ℕ
 stack_top args = stack_words args ++ (zeros (first_text args - (stack_pointer args + 4 * (length args + 5))) ++ texts args)
-
--- the bytes of the stack, which ends with these and is zero below them
-unfoldable pub stack_with : List ℕ → List ℕ
-stack_with top = zeros (1048576 - length top) ++ top
-
-abbrev pub stack_region : List ℕ → Region
-stack_region top = record { start = 0xBFF00000; perms = record { read = true; write = true; exec = false }; bytes = stack_with top }
-
-abbrev pub heap_region : ℕ → Region
-heap_region start = record { start = start; perms = record { read = true; write = true; exec = false }; bytes = [] }
-
-abbrev pub opening_regions : Exe → List ℕ → List Region
-opening_regions exe top = map region_of exe.segments ++ (stack_region top ∷ heap_region exe.brk_start ∷ [])
 
 abbrev pub opening : Exe → List (List ℕ) → List ℕ → State
 opening exe args input = record {

@@ -64,6 +64,7 @@ pair_asked c go fl rs h = by_test (c == 0) (c == 1) (c == 2) (c == 3) (c == 4) (
   where
     one : (f : Flag) (x : Bool) → f ∷ asked (go x) fl rs ≡ f ∷ []
     one f x = ap (λ (w : List Flag). f ∷ w) (h x)
+
     by_test : (p q r s t u v : Bool) → asked (cond p (Ask OF go) (cond q (Ask CF go) (cond r (Ask ZF go) (cond s (Ask CF (λ a. Ask ZF (λ b. go (a || b)))) (cond t (Ask SF go) (cond u (Ask PF go) (cond v (Ask SF (λ a. Ask OF (λ b. go (differ a b)))) (Ask ZF (λ z. Ask SF (λ a. Ask OF (λ b. go (z || differ a b)))))))))))) fl rs ≡ cond p (OF ∷ []) (cond q (CF ∷ []) (cond r (ZF ∷ []) (cond s (CF ∷ ZF ∷ []) (cond t (SF ∷ []) (cond u (PF ∷ []) (cond v (SF ∷ OF ∷ []) (ZF ∷ SF ∷ OF ∷ [])))))))
     by_test true q r s t u v = one OF _
     by_test false true r s t u v = one CF _

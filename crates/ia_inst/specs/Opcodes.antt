@@ -22,9 +22,9 @@ alu_of op low =
     if low == 5 then Some (opcode.Constant (constant.Alu op) false) else
     None)))))
 
--- the opcodes that hold no register
-abbrev pub single_of : ℕ → Option Opcode
-single_of b =
+-- the opcodes that hold no register: those below A0, and the others
+abbrev pub low_single_of : ℕ → Option Opcode
+low_single_of b =
     if b == 0x68 then Some (opcode.Simple simple.PushWord) else (
     if b == 0x69 then Some (opcode.Simple (simple.Multiply false)) else (
     if b == 0x6a then Some (opcode.Simple simple.PushByte) else (
@@ -44,7 +44,11 @@ single_of b =
     if b == 0x8f then Some (opcode.Simple simple.PopOperand) else (
     if b == 0x98 then Some (opcode.Simple (simple.Whole inst.Cwde)) else (
     if b == 0x99 then Some (opcode.Simple (simple.Whole inst.Cdq)) else (
-    if b == 0x9e then Some (opcode.Simple (simple.Whole inst.Sahf)) else (
+    if b == 0x9e then Some (opcode.Simple (simple.Whole inst.Sahf)) else
+    None)))))))))))))))))))
+
+abbrev pub high_single_of : ℕ → Option Opcode
+high_single_of b =
     if b == 0xa0 then Some (opcode.Absolute false true) else (
     if b == 0xa1 then Some (opcode.Absolute false false) else (
     if b == 0xa2 then Some (opcode.Absolute true true) else (
@@ -76,7 +80,10 @@ single_of b =
     if b == 0xfd then Some (opcode.Simple (simple.Whole inst.Std)) else (
     if b == 0xfe then Some (opcode.Step true) else (
     if b == 0xff then Some (opcode.Step false) else
-    None))))))))))))))))))))))))))))))))))))))))))))))))))
+    None))))))))))))))))))))))))))))))
+
+abbrev pub single_of : ℕ → Option Opcode
+single_of b = if nat_lt b 0xa0 then low_single_of b else high_single_of b
 
 abbrev pub opcode_of : ℕ → Option Opcode
 opcode_of b =

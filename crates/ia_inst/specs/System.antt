@@ -2,7 +2,7 @@
 use Rattle.std.specs.Prelude.{ℕ, ◌+◌, ◌-◌, ◌%◌, ◌^◌, nat_eq, nat_le, ◌&&◌, if◌then◌else◌, List, [], ◌++◌, map, length, take, drop, get_or, set, Option, Some, None, option_map}
 use Rattle.br_word.specs.declared.types.GuestFault.{GuestFault}
 use Rattle.br_word.specs.declared.types.GuestFault.TheVariants.{Access}
-use Rattle.br_word.specs.Memory.{Region, Reads, bytes_at, written, zeros}
+use Rattle.br_word.specs.Memory.{Region, Reads, bytes_at, written, resized}
 use Rattle.br_word.specs.State.{Cpu, State, Exited}
 
 -- where a step leads: on to a state, or to a fault
@@ -17,10 +17,6 @@ or_bad at (Some x) go = go x
 -- eax answers, and the guest goes on at this address
 abbrev pub answers : ℕ → ℕ → State → State
 answers value next s = record s { eip = next; cpu = record (s.cpu) { regs = set s.cpu.regs 0 value } }
-
--- the region that starts there holds so many bytes, the new ones zero
-abbrev pub resized : ℕ → ℕ → Region → Region
-resized start size r = if nat_eq r.start start then record r { bytes = take size (r.bytes ++ zeros size) } else r
 
 -- the bytes of a buffer that is written out; none need to be there for none
 abbrev pub buffer : ℕ → ℕ → List Region → Option (List ℕ)

@@ -26,9 +26,13 @@ pub fn kind(i: &Inst) -> Kind
 }
 
 const CF: u8 = 1;
+
 const PF: u8 = 2;
+
 const ZF: u8 = 4;
+
 const SF: u8 = 8;
+
 const OF: u8 = 16;
 
 /// The flags of a condition, which are those of its contrary too (SDM volume 1, appendix B).

@@ -1,6 +1,8 @@
+//! Which instructions have a spelling.
+
 ghost use Rattle.std.specs.Prelude.{◌≡◌, ℕ, List, ◌↔◌, IsTrue};
 ghost use Rattle.ia_inst.specs.Spells.{Spells};
-ghost use Rattle.ia_inst.specs.Canonical.{address_valid, rm_valid, imm_valid, count_valid, move_valid, test_valid, valid_of, canonical};
+ghost use Rattle.ia_inst.specs.Canonical.{address_valid, rm_valid, imm_valid, count_valid, move_valid, test_valid, is_long, source_valid, by_valid, widens, valid_of, canonical};
 ghost use Rattle.ia_inst.specs.declared.inst.Inst.{Inst};
 
 use crate::inst::{Addr, Count, Inst, Rm, Src};
@@ -75,6 +77,45 @@ fn test(w: Width, dst: &Rm, src: &Src) -> bool
     }
 }
 
+/// What is pushed.
+fn source(src: &Src) -> bool
+    ensures { result ≡ source_valid src.now }
+{
+    match src {
+        Src::Rm(rm) => operand(rm),
+        Src::Imm(n) => immediate(Width::B32, *n),
+    }
+}
+
+/// The factor of an IMUL.
+fn factor(by: Option<u32>) -> bool
+    ensures { result ≡ by_valid by }
+{
+    match by {
+        None => true,
+        Some(n) => immediate(Width::B32, n),
+    }
+}
+
+fn long(w: Width) -> bool
+    ensures { result ≡ is_long w }
+{
+    match w {
+        Width::B8 => false,
+        Width::B16 | Width::B32 => true,
+    }
+}
+
+/// Whether there is an extension from one width to another.
+fn extends(from: Width, to: Width) -> bool
+    ensures { result ≡ widens from to }
+{
+    match (from, to) {
+        (Width::B8, Width::B16 | Width::B32) | (Width::B16, Width::B32) => true,
+        _ => false,
+    }
+}
+
 fn is_valid(i: &Inst) -> bool
     ensures { result ≡ valid_of i.now }
 {
@@ -82,23 +123,14 @@ fn is_valid(i: &Inst) -> bool
         Inst::Alu { op, w, dst, src } => *op < 8 && pair(*w, dst, src),
         Inst::Test { w, dst, src } => test(*w, dst, src),
         Inst::Mov { w, dst, src } => pair(*w, dst, src),
-        Inst::Lea { w, dst, addr } => match w {
-            Width::B8 => false,
-            Width::B16 | Width::B32 => *dst < 8 && address(addr),
-        },
+        Inst::Lea { w, dst, addr } => long(*w) && *dst < 8 && address(addr),
         Inst::Xchg { dst, reg, .. } => operand(dst) && *reg < 8,
         Inst::Inc { dst, .. } | Inst::Dec { dst, .. } => operand(dst),
         Inst::Not { dst, .. } | Inst::Neg { dst, .. } => operand(dst),
-        Inst::Push { src: Src::Rm(rm) } => operand(rm),
-        Inst::Push { src: Src::Imm(n) } => immediate(Width::B32, *n),
+        Inst::Push { src } => source(src),
         Inst::Pop { dst } => operand(dst),
         Inst::MulDiv { op, src } => 3 < *op && *op < 8 && operand(src),
-        Inst::Imul { dst, src, by: None } => *dst < 8 && operand(src),
-        Inst::Imul {
-            dst,
-            src,
-            by: Some(n),
-        } => { *dst < 8 && operand(src) && immediate(Width::B32, *n) }
+        Inst::Imul { dst, src, by } => *dst < 8 && operand(src) && factor(*by),
         Inst::Shift { dst, count: by, .. } | Inst::Rotate { dst, count: by, .. } => {
             operand(dst) && count(by)
         }
@@ -108,12 +140,7 @@ fn is_valid(i: &Inst) -> bool
             dst,
             src,
             ..
-        } => match (from, to) {
-            (Width::B8, Width::B16 | Width::B32) | (Width::B16, Width::B32) => {
-                *dst < 8 && operand(src)
-            }
-            _ => false,
-        },
+        } => extends(*from, *to) && *dst < 8 && operand(src),
         Inst::Setcc { cond, dst } => *cond < 16 && operand(dst),
         Inst::Cmov { cond, dst, src } => *cond < 16 && *dst < 8 && operand(src),
         Inst::Jcc { cond, rel } => *cond < 16 && immediate(Width::B32, *rel),
@@ -125,6 +152,8 @@ fn is_valid(i: &Inst) -> bool
 }
 
 /// Whether there is a spelling of the instruction.
+///
+/// `docs/INSTRUCTIONS.md` says the same in terms of registers, widths and immediates.
 pub fn valid(i: &Inst) -> bool
     ensures spelled { IsTrue result ↔ (bytes : List ℕ) × Spells bytes i.now }
     ensures test { result ≡ valid_of i.now }

@@ -1,0 +1,5 @@
+use Rattle.std.proofs.Common.{◌≡◌, ◌≤◌, ℕ, length, IfOk, ◌+◌, ◌-◌, ◌*◌, ◌<◌}
+use Rattle.br_real.proofs.copying.read_whole.Given as goal
+
+abbrev pub invariant-loop : goal.invariant-loop
+invariant-loop g l = length l.bytes.items ≤ l.limit

@@ -1,0 +1,10 @@
+//! Writes static i386 ELF executables.
+#![tactic(auto)]
+
+mod file;
+mod law;
+mod number;
+mod piece;
+
+pub use file::{write_elf, write_joined};
+pub use law::read_back;

@@ -1,0 +1,8 @@
+use Rattle.std.proofs.Common.{◌∙◌, ap}
+use Rattle.std.specs.Prelude.{is_some}
+use Rattle.br_word.specs.Memory.{Reads}
+use Rattle.guest_mem.proofs.Places.{is_some-bytes_at}
+use Rattle.guest_mem.proofs.memory.Memory.can_read.Goals as goal
+
+pub returns : goal.returns
+returns c = c.is_some.ensures ∙ (ap is_some c.read_place.ensures ∙ is_some-bytes_at Reads c.args.at c.args.len c.args.self.now.regions)

@@ -1,0 +1,12 @@
+use Rattle.std.proofs.Common.{arith}
+use Rattle.ia_decode.proofs.Laws.{is_listed, is_found, is_only}
+use Rattle.ia_decode.proofs.instruction.decode.Goals as goal
+
+pub returns-clause-listed : goal.returns-clause-listed
+returns-clause-listed c = is_listed c.args.bytes.now c.decoded.result c.decoded.ensures
+
+pub returns-clause-found : goal.returns-clause-found
+returns-clause-found c = is_found c.args.bytes.now c.decoded.result (λ i. omega (arith, c.type_inv.bytes i)) c.decoded.ensures
+
+pub returns-clause-only : goal.returns-clause-only
+returns-clause-only c = is_only c.args.bytes.now c.decoded.result c.decoded.ensures

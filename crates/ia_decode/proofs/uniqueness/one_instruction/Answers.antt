@@ -1,0 +1,5 @@
+use Rattle.ia_decode.proofs.Laws.{same_instruction}
+use Rattle.ia_decode.proofs.uniqueness.one_instruction.Goals as goal
+
+pub returns : goal.returns
+returns c = same_instruction

@@ -1,0 +1,5 @@
+use Rattle.ia_decode.proofs.Laws.{no_other}
+use Rattle.ia_decode.proofs.uniqueness.one_spelling.Goals as goal
+
+pub returns : goal.returns
+returns c = no_other

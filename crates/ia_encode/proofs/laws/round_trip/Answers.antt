@@ -1,0 +1,5 @@
+use Rattle.ia_encode.proofs.Back.{canonical_back}
+use Rattle.ia_encode.proofs.laws.round_trip.Goals as goal
+
+pub returns : goal.returns
+returns c = canonical_back

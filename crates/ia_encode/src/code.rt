@@ -1,0 +1,213 @@
+//! The parts of a spelling: bytes, immediates and operands.
+
+ghost use Rattle.std.specs.Prelude.{◌≡◌, ℕ, ◌+◌, ◌<◌, ◌≤◌, List, [], ◌∷◌, ◌++◌, IsTrue};
+ghost use Rattle.ia_encode.specs.Written.{written};
+ghost use Rattle.ia_inst.specs.Operands.{two, four, fields};
+ghost use Rattle.ia_inst.specs.Spells.{size, pair, imm};
+ghost use Rattle.ia_inst.specs.Canonical.{rm_valid, address_valid, imm_valid, fits_byte, mode, displacement, log, operand_bytes, memory_bytes, based_bytes, index_valid};
+
+use ia_inst::{Addr, Rm, Width};
+
+/// Bytes of an instruction, from the left.
+#[derive(Clone, Copy, Debug)]
+pub struct Code {
+    pub bytes: [u8; 15],
+    pub length: usize,
+}
+
+impl Code {
+    pub fn new() -> Code
+        ensures written { written result ≡ [] }
+        ensures length { result.length ≡ 0 }
+    {
+        Code {
+            bytes: [0; 15],
+            length: 0,
+        }
+    }
+
+    pub fn byte(self, byte: u8) -> Code
+        requires { self.length < 15 }
+        ensures written { written result ≡ written self ++ byte ∷ [] }
+        ensures length { result.length ≡ self.length + 1 }
+    {
+        let mut bytes = self.bytes;
+        bytes[self.length] = byte;
+        Code {
+            bytes,
+            length: self.length + 1,
+        }
+    }
+
+    pub fn two(self, n: u16) -> Code
+        requires { self.length < 14 }
+        ensures written { written result ≡ written self ++ two n }
+        ensures length { result.length ≡ self.length + 2 }
+    {
+        let [a, b] = n.to_le_bytes();
+        self.byte(a).byte(b)
+    }
+
+    pub fn four(self, n: u32) -> Code
+        requires { self.length < 12 }
+        ensures written { written result ≡ written self ++ four n }
+        ensures length { result.length ≡ self.length + 4 }
+    {
+        let [a, b, c, d] = n.to_le_bytes();
+        self.byte(a).byte(b).byte(c).byte(d)
+    }
+
+    /// The prefix 66 where the width is 16.
+    pub fn size(self, w: Width) -> Code
+        requires { self.length < 15 }
+        ensures written { written result ≡ written self ++ size w }
+        ensures length { result.length ≤ self.length + 1 }
+    {
+        match w {
+            Width::B16 => self.byte(0x66),
+            Width::B8 | Width::B32 => self,
+        }
+    }
+
+    /// The opcode of a pair.
+    pub fn pair(self, w: Width, first: u8) -> Code
+        requires room { self.length < 14 }
+        requires first { first < 255 }
+        ensures written { written result ≡ written self ++ pair w first }
+        ensures length { result.length ≤ self.length + 2 }
+    {
+        match w {
+            Width::B8 => self.byte(first),
+            Width::B16 => self.byte(0x66).byte(first + 1),
+            Width::B32 => self.byte(first + 1),
+        }
+    }
+
+    pub fn immediate(self, w: Width, n: u32) -> Code
+        requires room { self.length < 12 }
+        requires fits { IsTrue (imm_valid w n) }
+        ensures written { written result ≡ written self ++ imm w n }
+        ensures length { result.length ≤ self.length + 4 }
+    {
+        match w {
+            Width::B8 => self.byte(n as u8),
+            Width::B16 => self.two(n as u16),
+            Width::B32 => self.four(n),
+        }
+    }
+
+    fn displacement(self, base: u8, disp: u32) -> Code
+        requires { self.length < 12 }
+        ensures written { written result ≡ written self ++ displacement base disp }
+        ensures length { result.length ≤ self.length + 4 }
+    {
+        if disp == 0 && base != 5 {
+            self
+        } else if fits_signed_byte(disp) {
+            self.byte((disp % 256) as u8)
+        } else {
+            self.four(disp)
+        }
+    }
+
+    fn based(self, reg: u8, base: u8, index: Option<(u8, u8)>, disp: u32) -> Code
+        requires room { self.length < 10 }
+        requires reg { reg < 8 }
+        requires base { base < 8 }
+        requires index { IsTrue (index_valid index) }
+        ensures written { written result ≡ written self ++ based_bytes reg base index disp }
+        ensures length { result.length ≤ self.length + 6 }
+    {
+        let mode = mode(base, disp);
+        match index {
+            None => {
+                if base == 4 {
+                    let code = self.byte(fields(mode, reg, 4)).byte(fields(0, 4, base));
+                    code.displacement(base, disp)
+                } else {
+                    self.byte(fields(mode, reg, base)).displacement(base, disp)
+                }
+            }
+            Some((register, scale)) => {
+                let code = self
+                    .byte(fields(mode, reg, 4))
+                    .byte(fields(log(scale), register, base));
+                code.displacement(base, disp)
+            }
+        }
+    }
+
+    fn memory(self, reg: u8, addr: &Addr) -> Code
+        requires room { self.length < 10 }
+        requires reg { reg < 8 }
+        requires valid { IsTrue (address_valid addr.now) }
+        ensures written { written result ≡ written self ++ memory_bytes reg addr.now.base addr.now.index addr.now.disp }
+        ensures length { result.length ≤ self.length + 6 }
+    {
+        match (addr.base, addr.index) {
+            (None, None) => self.byte(fields(0, reg, 5)).four(addr.disp),
+            (None, Some((register, scale))) => {
+                let code = self
+                    .byte(fields(0, reg, 4))
+                    .byte(fields(log(scale), register, 5));
+                code.four(addr.disp)
+            }
+            (Some(base), index) => self.based(reg, base, index, addr.disp),
+        }
+    }
+
+    /// A register or a place in memory, with a number in the reg field.
+    pub fn operand(self, reg: u8, rm: &Rm) -> Code
+        requires room { self.length < 10 }
+        requires reg { reg < 8 }
+        requires valid { IsTrue (rm_valid rm.now) }
+        ensures written { written result ≡ written self ++ operand_bytes reg rm.now }
+        ensures length { result.length ≤ self.length + 6 }
+    {
+        match rm {
+            Rm::Reg(register) => self.byte(fields(3, reg, *register)),
+            Rm::Mem(addr) => self.memory(reg, addr),
+        }
+    }
+}
+
+/// Whether a number is a sign extended byte.
+pub fn fits_signed_byte(n: u32) -> bool
+    ensures { result ≡ fits_byte n }
+{
+    n < 0x80 || 0xffff_ff7f < n
+}
+
+fn mode(base: u8, disp: u32) -> u8
+    ensures mode { result ≡ mode base disp }
+    ensures low { result < 3 }
+{
+    if disp == 0 && base != 5 {
+        0
+    } else if fits_signed_byte(disp) {
+        1
+    } else {
+        2
+    }
+}
+
+fn log(scale: u8) -> u8
+    ensures log { result ≡ log scale }
+    ensures low { result < 4 }
+{
+    match scale {
+        1 => 0,
+        2 => 1,
+        4 => 2,
+        _ => 3,
+    }
+}
+
+fn fields(high: u8, middle: u8, low: u8) -> u8
+    requires high { high < 4 }
+    requires middle { middle < 8 }
+    requires low { low < 8 }
+    ensures { result ≡ fields high middle low }
+{
+    high * 64 + middle * 8 + low
+}

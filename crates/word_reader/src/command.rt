@@ -1,0 +1,154 @@
+//! Commands.
+ghost use Rattle.std.specs.Prelude.{◌≡◌, map, string_bytes};
+ghost use Rattle.word_reader.specs.Words.{build_words, trace_words, run_words, merge_words, show_words, session_words, demo_words, command};
+ghost use Rattle.word_reader.specs.Reads.{Reads};
+
+use crate::number::read_number;
+use crate::parts::{check_arguments, check_traces, name, steps};
+
+/// A command with its words.
+#[derive(Clone, Copy, Debug, PartialEq, Eq)]
+pub enum Command<'a> {
+    Build {
+        n: &'a str,
+        e: &'a str,
+        traces: &'a [String],
+    },
+    Trace {
+        steps: u64,
+        t: &'a str,
+        e: &'a str,
+        args: &'a [String],
+    },
+    Run {
+        steps: u64,
+        e: &'a str,
+        args: &'a [String],
+    },
+    Merge {
+        t: &'a str,
+        e: &'a str,
+        traces: &'a [String],
+    },
+    Show {
+        e: &'a str,
+        traces: &'a [String],
+    },
+    Session {
+        e: &'a str,
+    },
+    Demo {
+        count: u32,
+    },
+}
+
+/// The words are no command.
+#[derive(Clone, Copy, Debug, PartialEq, Eq)]
+pub struct Usage {
+    /// The position of the first word that is wrong, from 0, or the number of words where one is missing.
+    pub at: u32,
+}
+
+fn build_words(words: &[String]) -> Result<Command<'_>, Usage>
+    ensures { Reads result (build_words (map string_bytes words.now)) }
+{
+    let (n, words) = name(words, 1)?;
+    let (e, traces) = name(words, 2)?;
+    check_traces(traces, 3)?;
+    Ok(Command::Build { n, e, traces })
+}
+
+fn trace_words(words: &[String]) -> Result<Command<'_>, Usage>
+    ensures { Reads result (trace_words (map string_bytes words.now)) }
+{
+    let (steps, at, words) = steps(words)?;
+    let (t, words) = name(words, at)?;
+    let (e, args) = name(words, at + 1)?;
+    check_arguments(args, at + 2)?;
+    Ok(Command::Trace { steps, t, e, args })
+}
+
+fn run_words(words: &[String]) -> Result<Command<'_>, Usage>
+    ensures { Reads result (run_words (map string_bytes words.now)) }
+{
+    let (steps, at, words) = steps(words)?;
+    let (e, args) = name(words, at)?;
+    check_arguments(args, at + 1)?;
+    Ok(Command::Run { steps, e, args })
+}
+
+fn merge_words(words: &[String]) -> Result<Command<'_>, Usage>
+    ensures { Reads result (merge_words (map string_bytes words.now)) }
+{
+    let (t, words) = name(words, 1)?;
+    let (e, traces) = name(words, 2)?;
+    check_traces(traces, 3)?;
+    Ok(Command::Merge { t, e, traces })
+}
+
+fn show_words(words: &[String]) -> Result<Command<'_>, Usage>
+    ensures { Reads result (show_words (map string_bytes words.now)) }
+{
+    let (e, traces) = name(words, 1)?;
+    check_traces(traces, 2)?;
+    Ok(Command::Show { e, traces })
+}
+
+fn session_words(words: &[String]) -> Result<Command<'_>, Usage>
+    ensures { Reads result (session_words (map string_bytes words.now)) }
+{
+    let (e, words) = name(words, 1)?;
+    if !words.is_empty() {
+        return Err(Usage { at: 2 });
+    }
+    Ok(Command::Session { e })
+}
+
+fn demo_words(words: &[String]) -> Result<Command<'_>, Usage>
+    ensures { Reads result (demo_words (map string_bytes words.now)) }
+{
+    let [word, rest @ ..] = words else {
+        return Err(Usage { at: 1 });
+    };
+    let Some(count) = read_number(word.as_str(), 18) else {
+        return Err(Usage { at: 1 });
+    };
+    if count < 1 || count > 1000 {
+        return Err(Usage { at: 1 });
+    }
+    if !rest.is_empty() {
+        return Err(Usage { at: 2 });
+    }
+    Ok(Command::Demo {
+        count: count as u32,
+    })
+}
+
+/// Reads the words after the program's name, from left to right. It takes no memory.
+///
+/// Word 0 is one of `build`, `trace`, `run`, `merge`, `show`, `session`, `demo`. `--steps` and a number of 1 to 18
+/// digits may stand at words 1 and 2 of `trace` and `run`, whose default is 100000000 steps. A name has 1
+/// to 4096 bytes. At most 4096 trace words are fetched. A guest is given at most 256 words, and with `guest`
+/// before them and a zero byte behind each at most 65536 bytes. `session` has one further word, and so has
+/// `demo`, a number from 1 to 1000.
+///
+/// `Usage` carries the position of the first word that is wrong, from 0, or the number of words where
+/// one is missing.
+#[tactic(auto, unfolding(crate::specs::Words::command))]
+pub fn read_words(words: &[String]) -> Result<Command<'_>, Usage>
+    ensures { Reads result (command (map string_bytes words.now)) }
+{
+    let [first, rest @ ..] = words else {
+        return Err(Usage { at: 0 });
+    };
+    match first.as_str() {
+        "build" => build_words(rest),
+        "trace" => trace_words(rest),
+        "run" => run_words(rest),
+        "merge" => merge_words(rest),
+        "show" => show_words(rest),
+        "session" => session_words(rest),
+        "demo" => demo_words(rest),
+        _ => Err(Usage { at: 0 }),
+    }
+}

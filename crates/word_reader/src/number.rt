@@ -1,0 +1,48 @@
+//! Numbers in words.
+ghost use Rattle.std.specs.Prelude.{◌≡◌, ◌≤◌, ◌<◌, ◌^◌, length, true};
+ghost use Rattle.word_reader.specs.Numbers.{is_digit, are_digits, number_of_digits, number_in};
+
+fn is_a_digit(byte: u8) -> bool
+    ensures { result ≡ is_digit byte }
+{
+    48 <= byte && byte <= 57
+}
+
+fn are_all_digits(bytes: &[u8]) -> bool
+    ensures { result ≡ are_digits bytes.now }
+{
+    for byte in bytes {
+        if !is_a_digit(*byte) {
+            return false;
+        }
+    }
+    true
+}
+
+fn digits_number(bytes: &[u8]) -> u64
+    requires digits { are_digits bytes.now ≡ true }
+    requires few { length bytes.now ≤ 18 }
+    ensures { result ≡ number_of_digits bytes.now }
+{
+    let mut number: u64 = 0;
+    for byte in bytes {
+        number = number * 10 + (*byte - b'0') as u64;
+    }
+    number
+}
+
+/// The number that a word writes in 1 to `most` decimal digits.
+pub fn read_number(word: &str, most: usize) -> Option<u64>
+    requires { most ≤ 18 }
+    ensures { result ≡ number_in most word.now }
+{
+    let bytes = word.as_bytes();
+    if bytes.is_empty() || bytes.len() > most {
+        return None;
+    }
+    if are_all_digits(bytes) {
+        Some(digits_number(bytes))
+    } else {
+        None
+    }
+}
