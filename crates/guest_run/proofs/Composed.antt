@@ -168,12 +168,12 @@ stops r n more s g h a b c run_s stopped le p d =
 pub run_more : (r : answer.Stop) (n more : ℕ) (s : State) (g h : GuestView) (a b c : Streams) → s.stop ≡ Running → more ≤ ahead (step s 0)
   → Passes (step s 0) more a b → RunDone r n (fed (drop more (step s 0).input) (bare (step s 0))) (stepped g s 0 (step s 0)) h b c → RunDone r (suc n) s g h a c
 run_more r n more s g h a b c run_s le p d = go (step s 0).stop refl where
-  no : (x : Stop) → (step s 0).stop ≡ x → spare x (asks_next (step s 0)) ≡ 0 → RunDone r (suc n) s g h a c
-  no x e z =
+  at_end : (x : Stop) → (step s 0).stop ≡ x → spare x (asks_next (step s 0)) ≡ 0 → RunDone r (suc n) s g h a c
+  at_end x e z =
       let none : more ≡ 0 = omega (arith, le, ap (λ y. spare y (asks_next (step s 0))) e, z) in
       let P : ℕ → Type 0 = λ k. Passes (step s 0) k a b → RunDone r n (fed (drop k (step s 0).input) (bare (step s 0))) (stepped g s 0 (step s 0)) h b c → RunDone r (suc n) s g h a c in
       subst P (sym none) (λ p d. goes_on r n s g h a b c run_s p d) p d
   go : (x : Stop) → (step s 0).stop ≡ x → RunDone r (suc n) s g h a c
-  go Running e = no Running e refl
-  go (Exited k) e = no (Exited k) e refl
+  go Running e = at_end Running e refl
+  go (Exited k) e = at_end (Exited k) e refl
   go (Faulted f) e = stops r n more s g h a b c run_s (λ q. let z = sym e ∙ q in cc) le p d

@@ -100,6 +100,7 @@ no_call (inst.Stos w rep) n regs eip df e = no_if (is_over rep regs) _ _ tt (no_
 no_call inst.Cld n regs eip df e = tt
 no_call inst.Std n regs eip df e = tt
 no_call inst.Sahf n regs eip df e = tt
+no_call inst.Nop n regs eip df e = tt
 no_call inst.Int80 n regs eip df e = absurd (cc)
 
 not_called : {X : Type 0} (at : ℕ) (o : Option X) (go : X → End) (k : ℕ) → ((x : X) → go x ≡ Called k → ⊥) → or_denied at o go ≡ Called k → ⊥

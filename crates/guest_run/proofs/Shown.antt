@@ -1,10 +1,11 @@
 -- What a guest does, does not depend on what it has written before.
-use Rattle.std.proofs.Common.{◌≡◌, ℕ, zero, suc, ◌+◌, ◌<◌, ◌≤◌, Bool, true, false, cond, if◌then◌else◌, List, [], ◌∷◌, ◌++◌, Option, Some, None, refl, sym, ◌∙◌, ap, append_assoc, set, get_or}
+use Rattle.std.proofs.Common.{◌≡◌, ℕ, zero, suc, ◌+◌, ◌<◌, ◌≤◌, Bool, true, false, cond, if◌then◌else◌, List, [], ◌∷◌, ◌++◌, Option, Some, None, refl, sym, ◌∙◌, ap, append_assoc, get_or, take, drop, length, map, nat_eq, nat_le, ◌&&◌, ◌-◌, ◌^◌}
 use Rattle.std.proofs.lemmas.List.{append-nil}
 use Rattle.br_word.specs.Words.{bit}
 use Rattle.br_word.specs.State.{State, Stop, Running, Exited, Faulted}
 use Rattle.ia_inst.specs.Act.{End, Next, Denied, Divided, Called, perform}
-use Rattle.ia_inst.specs.System.{Way, On, Bad, or_bad, system}
+use Rattle.br_word.specs.Memory.{Region, resized}
+use Rattle.ia_inst.specs.System.{Way, On, Bad, or_bad, answers, buffer, filled, call_exit, call_read, call_write, call_brk, system}
 use Rattle.ia_inst.specs.Step.{Found, NoCode, NoInst, There, found, act_of, way_of, way_at, step_way, settled, unless_stopped, step}
 use Rattle.guest_sys.specs.Machine.{fed, bare}
 use Rattle.guest_run.specs.Edges.{Edge, edge_by, edge_at, edge_of, is_transfer}
@@ -19,23 +20,56 @@ abbrev pub way_shown : List ℕ → List ℕ → Way → Way
 way_shown w e (On t) = On (shown w e t)
 way_shown w e (Bad f) = Bad f
 
-if_shown : (w e : List ℕ) (b : Bool) (x y x' y' : Way) → x ≡ way_shown w e x' → y ≡ way_shown w e y' → (if b then x else y) ≡ way_shown w e (if b then x' else y')
-if_shown w e true x y x' y' p q = p
-if_shown w e false x y x' y' p q = q
+read_shown : (w e : List ℕ) (s : State) (next at : ℕ) (new : List ℕ) (b : Bool) (o : Option (List Region))
+  → (if b then or_bad at o (λ rs. On (record (answers (length new) next (shown w e s)) { regions = rs; input = drop (length new) s.input })) else On (answers (2 ^ 32 - 9) next (shown w e s)))
+  ≡ way_shown w e (if b then or_bad at o (λ rs. On (record (answers (length new) next s) { regions = rs; input = drop (length new) s.input })) else On (answers (2 ^ 32 - 9) next s))
+read_shown w e s next at new true None = refl
+read_shown w e s next at new true (Some rs) = refl
+read_shown w e s next at new false o = refl
 
-or_shown : {X : Type 0} (w e : List ℕ) (at : ℕ) (o : Option X) (go go' : X → Way) → ((x : X) → go x ≡ way_shown w e (go' x)) → or_bad at o go ≡ way_shown w e (or_bad at o go')
-or_shown w e at None go go' h = refl
-or_shown w e at (Some x) go go' h = h x
+write_shown : (w e : List ℕ) (s : State) (next at n : ℕ) (b c : Bool) (o : Option (List ℕ))
+  → (if b then or_bad at o (λ bs. On (record (answers n next (shown w e s)) { out = (w ++ s.out) ++ bs }))
+     else if c then or_bad at o (λ bs. On (record (answers n next (shown w e s)) { err = (e ++ s.err) ++ bs }))
+     else On (answers (2 ^ 32 - 9) next (shown w e s)))
+  ≡ way_shown w e (if b then or_bad at o (λ bs. On (record (answers n next s) { out = s.out ++ bs }))
+     else if c then or_bad at o (λ bs. On (record (answers n next s) { err = s.err ++ bs }))
+     else On (answers (2 ^ 32 - 9) next s))
+write_shown w e s next at n true c None = refl
+write_shown w e s next at n true c (Some bs) = ap (λ x. On (record (answers n next (shown w e s)) { out = x })) (append_assoc w s.out bs)
+write_shown w e s next at n false true None = refl
+write_shown w e s next at n false true (Some bs) = ap (λ x. On (record (answers n next (shown w e s)) { err = x })) (append_assoc e s.err bs)
+write_shown w e s next at n false false o = refl
+
+brk_shown : (w e : List ℕ) (s : State) (next to : ℕ) (rs : List Region) (b : Bool)
+  → (if b then On (record (answers to next (shown w e s)) { brk = to; regions = rs }) else On (answers s.brk next (shown w e s)))
+  ≡ way_shown w e (if b then On (record (answers to next s) { brk = to; regions = rs }) else On (answers s.brk next s))
+brk_shown w e s next to rs true = refl
+brk_shown w e s next to rs false = refl
+
+choose_shown : (w e : List ℕ) (p q r t : Bool) (a b c d f a' b' c' d' f' : Way)
+  → a ≡ way_shown w e a' → b ≡ way_shown w e b' → c ≡ way_shown w e c' → d ≡ way_shown w e d' → f ≡ way_shown w e f'
+  → (if p then a else if q then b else if r then c else if t then d else f) ≡ way_shown w e (if p then a' else if q then b' else if r then c' else if t then d' else f')
+choose_shown w e true q r t a b c d f a' b' c' d' f' u v x y z = u
+choose_shown w e false true r t a b c d f a' b' c' d' f' u v x y z = v
+choose_shown w e false false true t a b c d f a' b' c' d' f' u v x y z = x
+choose_shown w e false false false true a b c d f a' b' c' d' f' u v x y z = y
+choose_shown w e false false false false a b c d f a' b' c' d' f' u v x y z = z
 
 pub system_shown : (next : ℕ) (w e : List ℕ) (s : State) → system next (shown w e s) ≡ way_shown w e (system next s)
 unfolding system
 system_shown next w e s =
-    if_shown w e _ _ _ _ _ refl
-    (if_shown w e _ _ _ _ _ (if_shown w e _ _ _ _ _ (or_shown w e _ _ _ _ (λ rs. refl)) refl)
-    (if_shown w e _ _ _ _ _
-        (if_shown w e _ _ _ _ _ (or_shown w e _ _ _ _ (λ bs. ap (λ o. On (record s { eip = next; cpu = record (s.cpu) { regs = set s.cpu.regs 0 (get_or s.cpu.regs 2 0) }; out = o; err = e ++ s.err })) (append_assoc w s.out bs)))
-        (if_shown w e _ _ _ _ _ (or_shown w e _ _ _ _ (λ bs. ap (λ o. On (record s { eip = next; cpu = record (s.cpu) { regs = set s.cpu.regs 0 (get_or s.cpu.regs 2 0) }; out = w ++ s.out; err = o })) (append_assoc e s.err bs))) refl))
-    (if_shown w e _ _ _ _ _ (if_shown w e _ _ _ _ _ refl refl) refl)))
+    let at = get_or s.cpu.regs 1 0 in
+    let n = get_or s.cpu.regs 2 0 in
+    let d = get_or s.cpu.regs 3 0 in
+    let number = get_or s.cpu.regs 0 0 in
+    choose_shown w e (nat_eq number 1) (nat_eq number 3) (nat_eq number 4) (nat_eq number 45)
+    (call_exit next (shown w e s)) (call_read next (shown w e s)) (call_write next (shown w e s)) (call_brk next (shown w e s)) (On (answers (2 ^ 32 - 38) next (shown w e s)))
+    (call_exit next s) (call_read next s) (call_write next s) (call_brk next s) (On (answers (2 ^ 32 - 38) next s))
+    refl
+    (read_shown w e s next at (take n s.input) (nat_eq d 0) (filled at (take n s.input) s.regions))
+    (write_shown w e s next at n (nat_eq d 1) (nat_eq d 2) (buffer at n s.regions))
+    (brk_shown w e s next d (map (resized s.brk_start (d - s.brk_start)) s.regions) (nat_le s.brk_start d && nat_le d (s.brk_start + 67108864)))
+    refl
 
 end_shown : (x : End) (w e : List ℕ) (s : State) → way_of x (shown w e s) ≡ way_shown w e (way_of x s)
 end_shown (Next u rs to) w e s = refl

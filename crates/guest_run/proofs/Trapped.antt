@@ -50,7 +50,7 @@ stopped stop = record { stop = stop; edge = None }
 done_at : (at : ℕ) (left : List ℕ) (u v : Cpu) (m n : MemoryView) (b a : Streams) (called : Called) (w : Way) → IsNoFault called
   → Does (fed left (state_of u m)) (settled w (fed left (state_of u m))) called (record { cpu = u; memory = m; streams = b }) (record { cpu = v; memory = n; streams = a })
   → Advances (fed left (state_of (record u { eip = at }) m)) (of_way (fed left (state_of (record u { eip = at }) m)) w) (stopped (stop_as called)) (record { cpu = record u { eip = at }; memory = m; streams = b }) (record { cpu = v; memory = n; streams = a })
-done_at at left u v m n b a called (On t) no d = record {
+done_at at left u v m n b a called (On t) sound d = record {
   stop = ap stop_as d.answer ∙ stop_is t.stop;
   edge = refl;
   state = d.machine;
@@ -60,7 +60,7 @@ done_at at left u v m n b a called (On t) no d = record {
   streams = d.streams;
   idle = d.idle;
 }
-done_at at left u v m n b a called (Bad f) no d = absurd (subst IsNoFault d.answer no)
+done_at at left u v m n b a called (Bad f) sound d = absurd (subst IsNoFault d.answer sound)
 
 fault_same : (f g : GuestFault) → Fault f ≡ Fault g → answers.Fault f ≡ answers.Fault g
 fault_same f g e = let h : f ≡ g = cc in ap answers.Fault h
@@ -104,11 +104,11 @@ fails_at at Report left u m b a (Bad g) f = f
 
 pub trap_done : (at : ℕ) (u v : Cpu) (m n : MemoryView) (i o e j p f : StreamView) (called : Called) → IsNoFault called
   → Calls (Ok called) (machine u m i o e) (machine v n j p f) → Trap at (Ok (stopped (stop_as called))) (machine u m i o e) (machine v n j p f)
-trap_done at u v m n i o e j p f called no c =
+trap_done at u v m n i o e j p f called sound c =
     let s = fed c.left (state_of u m) in
     let t = fed c.left (state_of (record u { eip = at }) m) in
     let P : Way → Type 0 = λ w. Advances t (of_way t w) (stopped (stop_as called)) (machine (record u { eip = at }) m i o e) (machine v n j p f) in
-    record { left = c.left; told = c.told; gives = subst P (sym (system_eip u.eip at s)) (done_at at c.left u v m n _ _ called (system u.eip s) no c.gives) }
+    record { left = c.left; told = c.told; gives = subst P (sym (system_eip u.eip at s)) (done_at at c.left u v m n _ _ called (system u.eip s) sound c.gives) }
 
 pub trap_fault : (at : ℕ) (u v : Cpu) (m n : MemoryView) (i o e j p f : StreamView) (g : GuestFault)
   → Calls (Ok (Fault g)) (machine u m i o e) (machine v n j p f) → Trap at (Ok (stopped (answers.Fault g))) (machine u m i o e) (machine (record v { eip = at }) n j p f)

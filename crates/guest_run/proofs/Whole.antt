@@ -62,14 +62,14 @@ fails_on e n s g h a b c p f =
 run_fails_more : (e : SysError) (n more : ℕ) (s : State) (g h : GuestView) (a b c : Streams) → more ≤ ahead (step s 0) → Passes (step s 0) more a b
   → RunFailed e n (fed (drop more (step s 0).input) (bare (step s 0))) (stepped g s 0 (step s 0)) h b c → RunFailed e (suc n) s g h a c
 run_fails_more e n more s g h a b c le p f = go (step s 0).stop refl where
-  no : (x : Stop) → (step s 0).stop ≡ x → spare x (asks_next (step s 0)) ≡ 0 → RunFailed e (suc n) s g h a c
-  no x q z =
+  at_end : (x : Stop) → (step s 0).stop ≡ x → spare x (asks_next (step s 0)) ≡ 0 → RunFailed e (suc n) s g h a c
+  at_end x q z =
       let none : more ≡ 0 = omega (arith, le, ap (λ y. spare y (asks_next (step s 0))) q, z) in
       let P : ℕ → Type 0 = λ k. Passes (step s 0) k a b → RunFailed e n (fed (drop k (step s 0).input) (bare (step s 0))) (stepped g s 0 (step s 0)) h b c → RunFailed e (suc n) s g h a c in
       subst P (sym none) (λ p f. fails_on e n s g h a b c p f) p f
   go : (x : Stop) → (step s 0).stop ≡ x → RunFailed e (suc n) s g h a c
-  go Running q = no Running q refl
-  go (Exited k) q = no (Exited k) q refl
+  go Running q = at_end Running q refl
+  go (Exited k) q = at_end (Exited k) q refl
   go (Faulted x) q =
       let stopped : (step s 0).stop ≡ Running → ⊥ = λ r. (let z = sym q ∙ r in cc) in
       let same = run_none f.done (fed (drop more (step s 0).input) (bare (step s 0))) stopped in

@@ -1,5 +1,5 @@
 //! A guest and its steps.
-ghost use Rattle.std.specs.Prelude.{◌≡◌, ◌+◌, ◌<◌, ◌≤◌, ◌^◌, true};
+ghost use Rattle.std.specs.Prelude.{◌≡◌, ◌+◌, ◌<◌, ◌≤◌, ◌^◌, true, IsTrue, ◌↔◌};
 ghost use Rattle.guest_sys.specs.Streams.{Streams};
 ghost use Rattle.guest_run.specs.Guest.{Steps, Runs, streams};
 
@@ -34,6 +34,16 @@ impl Model for Guest {
     ghost view = { λ g. view_of g.cpu g.memory g.stop g.steps g.edge g.live };
 
     ghost invariant = { λ g. g.cpu.undefined ≤ g.steps };
+}
+
+fn is_running(stop: Stop) -> bool
+    ensures { IsTrue result ↔ (stop ≡ Stop.Budget) }
+{
+    match stop {
+        Stop::Budget => true,
+        Stop::Exited(_) => false,
+        Stop::Fault(_) => false,
+    }
 }
 
 impl Guest {
@@ -94,9 +104,8 @@ impl Guest {
         requires room { self.old.steps < 10 ^ 18 }
         ensures { Steps result choice self.old self.new (streams (I.seen input.old) (O.seen out.old) (E.seen err.old)) (streams (I.seen input.new) (O.seen out.new) (E.seen err.new)) }
     {
-        match self.stop {
-            Stop::Exited(_) | Stop::Fault(_) => return Ok(false),
-            Stop::Budget => {}
+        if !is_running(self.stop) {
+            return Ok(false);
         }
         match advance(self.alloc, &mut self.cpu, &mut self.memory, choice, input, out, err) {
             Err(error) => {

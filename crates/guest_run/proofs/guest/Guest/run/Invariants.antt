@@ -5,8 +5,8 @@ use Rattle.guest_run.specs.declared.stop.Stop.{Stop}
 use Rattle.guest_run.specs.Guest.{GuestView, Runs, streams}
 use Rattle.guest_run.proofs.guest.Guest.run.Given as goal
 
-abbrev pub invariant-loop-_step : goal.invariant-loop-_step
-invariant-loop-_step g l = record {
+abbrev pub invariant-loop-step : goal.invariant-loop-_step
+invariant-loop-step g l = record {
   live : l.self.live ≡ true;
   room : l.self.steps + (l.budget - l._step) ≤ 10 ^ 18;
   rest : (r : Result Stop SysError) (h : GuestView) (after : Streams)
