@@ -16,11 +16,11 @@ use Rattle.guest_run.specs.declared.stop.Stop as answer
 use Rattle.guest_run.specs.Edges.{Edge, edge_of}
 use Rattle.guest_run.specs.Run.{run}
 use Rattle.guest_run.specs.Guest.{GuestView, first_edge, reads_undefined, asks_next, ahead, stepped, while_running, steps_taken, undefined_taken, edge_after, answer_of, RunDone, AllSteady}
-use Rattle.guest_run.proofs.Shown.{shown, shown_bare, run_shown, steps_shown, undefined_shown, edge_shown}
+use Rattle.guest_run.proofs.Shown.{shown, ahead_shown, shown_bare, run_shown, steps_shown, undefined_shown, edge_shown}
 
 -- ---- streams, one after another
 
-left_then : (o p : Option (List ℕ)) (c : StreamView) (t : List ℕ) (rest : List ℕ) → IfSome o (λ left. p ≡ Some t) → IfSome p (λ left. c.bytes ≡ Some rest) → IfSome o (λ left. c.bytes ≡ Some rest)
+pub left_then : (o p : Option (List ℕ)) (c : StreamView) (t : List ℕ) (rest : List ℕ) → IfSome o (λ left. p ≡ Some t) → IfSome p (λ left. c.bytes ≡ Some rest) → IfSome o (λ left. c.bytes ≡ Some rest)
 left_then None p c t rest h k = tt
 left_then (Some left) p c t rest h k = let P : Option (List ℕ) → Type 0 = λ p. IfSome p (λ left. c.bytes ≡ Some rest) in subst P h k
 
@@ -124,7 +124,7 @@ goes_on r n s g h a b c run_s p d =
     let edge : edge_after n t e ≡ edge_after n t0 e = ap (λ x. edge_after n x e) (shown_bare t) ∙ edge_shown n t.out t.err t0 e in
     let P : State → Type 0 = λ x. Passes x d.more a c in
     let few : d.more ≤ ahead r0 = omega (arith, d.few, running_le t.stop (ahead r0)) in
-    let more : ahead r0 ≡ ahead (run n t []) = ap ahead (sym same) in
+    let more : ahead r0 ≡ ahead (run n t []) = sym (ahead_shown t.out t.err r0) ∙ ap ahead (sym same) in
     record {
       answer = d.answer ∙ ap (λ (x : State). answer_of x.stop) (sym same);
       state = d.state ∙ ap bare (sym same);

@@ -7,3 +7,4 @@ pub mod Stepped
 pub mod Shown
 pub mod Composed
 pub mod Whole
+pub mod Texts

@@ -6,11 +6,13 @@ use Rattle.br_word.specs.State.{State, Stop, Running, Exited, Faulted}
 use Rattle.ia_inst.specs.Act.{End, Next, Denied, Divided, Called, perform}
 use Rattle.br_word.specs.Memory.{Region, resized}
 use Rattle.ia_inst.specs.System.{Way, On, Bad, or_bad, answers, buffer, filled, call_exit, call_read, call_write, call_brk, system}
-use Rattle.ia_inst.specs.Step.{Found, NoCode, NoInst, There, found, act_of, way_of, way_at, step_way, settled, unless_stopped, step}
+use Rattle.ia_inst.specs.Step.{Found, NoCode, NoInst, There, found, act_of, way_of, way_at, step_way, settled, unless_stopped, asked_at, step}
+use Rattle.ia_meaning.specs.Effect.{some_unmarked}
+use Rattle.guest_sys.specs.Calls.{spare}
 use Rattle.guest_sys.specs.Machine.{fed, bare}
 use Rattle.guest_run.specs.Edges.{Edge, edge_by, edge_at, edge_of, is_transfer}
 use Rattle.guest_run.specs.Run.{run}
-use Rattle.guest_run.specs.Guest.{first_edge, reads_undefined, while_running, steps_taken, undefined_taken, edge_after}
+use Rattle.guest_run.specs.Guest.{first_edge, reads_undefined, traps, asks_by, ahead, while_running, steps_taken, undefined_taken, edge_after}
 
 -- the state with these bytes written before
 abbrev pub shown : List ℕ → List ℕ → State → State
@@ -105,9 +107,24 @@ pub steps_shown : (n : ℕ) (w e : List ℕ) (s : State) → steps_taken n (show
 steps_shown zero w e s = refl
 steps_shown (suc n) w e s = ap (λ k. while_running s.stop (1 + k) 0) (ap (λ t. steps_taken n t) (step_shown w e s 0) ∙ steps_shown n w e (step s 0))
 
+asked_shown : (f : Found) (w e : List ℕ) (s : State) → asked_at f (shown w e s) ≡ asked_at f s
+asked_shown NoCode w e s = refl
+asked_shown NoInst w e s = refl
+asked_shown (There i n) w e s = refl
+
+reads_shown : (w e : List ℕ) (s : State) → reads_undefined (shown w e s) ≡ reads_undefined s
+reads_shown w e s = ap (λ fs. some_unmarked fs s.cpu.marks) (asked_shown (found s.eip s.regions) w e s)
+
+by_asked : (b : Bool) (w e : List ℕ) (s : State) → asks_by b (shown w e s) ≡ asks_by b s
+by_asked true w e s = refl
+by_asked false w e s = refl
+
+pub ahead_shown : (w e : List ℕ) (s : State) → ahead (shown w e s) ≡ ahead s
+ahead_shown w e s = ap (λ n. spare s.stop n) (by_asked (traps s) w e s)
+
 pub undefined_shown : (n : ℕ) (w e : List ℕ) (s : State) → undefined_taken n (shown w e s) ≡ undefined_taken n s
 undefined_shown zero w e s = refl
-undefined_shown (suc n) w e s = ap (λ k. while_running s.stop (bit (reads_undefined s) + k) 0) (ap (λ t. undefined_taken n t) (step_shown w e s 0) ∙ undefined_shown n w e (step s 0))
+undefined_shown (suc n) w e s = ap (λ r. while_running s.stop (bit r + undefined_taken n (step (shown w e s) 0)) 0) (reads_shown w e s) ∙ ap (λ k. while_running s.stop (bit (reads_undefined s) + k) 0) (ap (λ t. undefined_taken n t) (step_shown w e s 0) ∙ undefined_shown n w e (step s 0))
 
 by_shown : (b : Bool) (x : Way) (w e : List ℕ) (at : ℕ) → edge_by b (way_shown w e x) at ≡ edge_by b x at
 by_shown true (On t) w e at = refl

@@ -15,7 +15,7 @@ use Rattle.guest_sys.proofs.Done.{leaves_same, gains_none}
 use Rattle.guest_run.specs.declared.stop.Stop as answer
 use Rattle.guest_run.specs.declared.stop.Stop.TheVariants as answers
 use Rattle.guest_run.specs.Run.{run}
-use Rattle.guest_run.specs.Guest.{GuestView, asks_next, ahead, stepped, answer_of, StepDone, StepFailed, Steps, RunDone, PartGiven, Unchanged, RunFailsAt, RunFailed, RunGives, AllSteady, OneFails, RunEnded, RunBroken, EndGives, Runs, while_running, steps_taken, undefined_taken, edge_after}
+use Rattle.guest_run.specs.Guest.{GuestView, stop_of, asks_next, ahead, stepped, answer_of, StepDone, StepFailed, Steps, RunDone, PartGiven, Unchanged, RunFailsAt, RunFailed, RunGives, AllSteady, OneFails, RunEnded, RunBroken, EndGives, Runs, while_running, steps_taken, undefined_taken, edge_after}
 use Rattle.guest_run.proofs.Shown.{shown, shown_bare, run_shown, step_shown}
 use Rattle.guest_run.proofs.Composed.{left_then, leaves_then, given_then, gains_then, steady_of, run_none, steps_none, undefined_none, edge_none, run_more}
 
@@ -221,3 +221,35 @@ runs_failed e n g h a c is d = record {
         steps = omega (arith, ap (λ (x : GuestView). x.steps) d.gives.guest);
         streams = fails_now e (fed d.left g.state) (step (fed d.left g.state) 0) a c d.told (ap (λ (s : State). s.out) is) (ap (λ (s : State). s.err) is) d.gives.streams;
       }))
+
+-- ---- the loop
+
+pub runs_at : (r : Result answer.Stop SysError) (m n : ℕ) (g h : GuestView) (a b : Streams) → m ≡ n → Runs r n g h a b → Runs r m g h a b
+runs_at r m n g h a b e w = let P : ℕ → Type 0 = λ n. Runs r n g h a b in subst P (sym e) w
+
+again : (x : answer.Stop) → answer_of (stop_of x) ≡ x
+again answers.Budget = refl
+again (answers.Exited n) = refl
+again (answers.Fault f) = refl
+
+answers_as : (x : answer.Stop) (s : Stop) (n : ℕ) (g h : GuestView) (a b : Streams) → stop_of x ≡ s → Runs (Ok (answer_of s)) n g h a b → Runs (Ok x) n g h a b
+answers_as x s n g h a b e w = let P : answer.Stop → Type 0 = λ y. Runs (Ok y) n g h a b in subst P (ap answer_of (sym e) ∙ again x) w
+
+pub runs_end : (x : answer.Stop) (g : GuestView) (a : Streams) → g.live ≡ true → g.state ≡ bare g.state → stop_of x ≡ g.state.stop → Runs (Ok x) 0 g g a a
+runs_end x g a live is e = answers_as x g.state.stop 0 g g a a e (runs_none g a live is)
+
+pub runs_idle : (x : answer.Stop) (n : ℕ) (g h : GuestView) (a b : Streams) → Steps (Ok false) 0 g h a b → g.live ≡ true → g.state ≡ bare g.state → stop_of x ≡ h.state.stop → Runs (Ok x) n g h a b
+runs_idle x n g h a b d live is e =
+    let P : GuestView → Type 0 = λ h. Runs (Ok x) n g h a b in
+    let Q : Streams → Type 0 = λ b. Runs (Ok x) n g g a b in
+    subst P (sym d.gives.guest) (subst Q (sym d.gives.streams)
+    (answers_as x g.state.stop n g g a a (e ∙ ap (λ (y : GuestView). y.state.stop) d.gives.guest) (runs_stopped n g a live is d.gives.stopped)))
+
+pub done_live : (c : ℕ) (g h : GuestView) (a b : Streams) → Steps (Ok true) c g h a b → h.live ≡ true
+done_live c g h a b d = ap (λ (y : GuestView). y.live) d.gives.guest
+
+pub done_steps : (c : ℕ) (g h : GuestView) (a b : Streams) → Steps (Ok true) c g h a b → h.steps ≡ g.steps + 1
+done_steps c g h a b d = ap (λ (y : GuestView). y.steps) d.gives.guest
+
+pub done_bare : (c : ℕ) (g h : GuestView) (a b : Streams) → Steps (Ok true) c g h a b → h.state ≡ bare h.state
+done_bare c g h a b d = ap (λ (y : GuestView). y.state) d.gives.guest ∙ sym (ap (λ (y : GuestView). bare y.state) d.gives.guest)

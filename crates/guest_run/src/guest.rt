@@ -137,6 +137,7 @@ impl Guest {
         requires room { self.old.steps + budget ≤ 10 ^ 18 }
         ensures { Runs result budget self.old self.new (streams (I.seen input.old) (O.seen out.old) (E.seen err.old)) (streams (I.seen input.new) (O.seen out.new) (E.seen err.new)) }
     {
+        let _live = self.live;
         for _step in 0..budget {
             match self.step(0, input, out, err) {
                 Err(error) => return Err(error),
