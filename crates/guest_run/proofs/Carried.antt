@@ -66,7 +66,7 @@ edge_bad false at f = refl
 
 -- what an instruction that goes on comes to
 next_at : (i : Inst) (k c : ℕ) (left : List ℕ) (u v : Cpu) (m n : MemoryView) (b : Streams) (e : End) → Tells left b.input → Comes e outcome.Next u m v n → v.undefined ≡ u.undefined + bit (some_unmarked (flags_read i) u.known)
-  → Advances (fed left (state_of u m)) (of_inst i k (fed left (state_of u m)) (way_of e (fed left (state_of u m)))) (record { stop = answers.Budget; edge = edge_if (is_transfer i) u.eip v.eip }) (record { cpu = u; memory = m; streams = b }) (record { cpu = v; memory = n; streams = b })
+    → Advances (fed left (state_of u m)) (of_inst i k (fed left (state_of u m)) (way_of e (fed left (state_of u m)))) (record { stop = answers.Budget; edge = edge_if (is_transfer i) u.eip v.eip }) (record { cpu = u; memory = m; streams = b }) (record { cpu = v; memory = n; streams = b })
 next_at i k c left u v m n b (Next w rs to) told h un = record {
   stop = refl;
   edge = edge_on (is_transfer i) u.eip v.eip (record (fed left (state_of u m)) { eip = place_of to u.eip; cpu = w; regions = rs }) h.1;
@@ -82,7 +82,7 @@ next_at i k c left u v m n b Divided told h un = absurd h
 next_at i k c left u v m n b (Called x) told h un = absurd h
 
 fault_at : (i : Inst) (k c : ℕ) (left : List ℕ) (u v : Cpu) (m n : MemoryView) (b : Streams) (f : GuestFault) (e : End) → Tells left b.input → Comes e (outcome.Fault f) u m v n → v.undefined ≡ u.undefined + bit (some_unmarked (flags_read i) u.known)
-  → Advances (fed left (state_of u m)) (of_inst i k (fed left (state_of u m)) (way_of e (fed left (state_of u m)))) (record { stop = answers.Fault f; edge = None }) (record { cpu = u; memory = m; streams = b }) (record { cpu = v; memory = n; streams = b })
+    → Advances (fed left (state_of u m)) (of_inst i k (fed left (state_of u m)) (way_of e (fed left (state_of u m)))) (record { stop = answers.Fault f; edge = None }) (record { cpu = u; memory = m; streams = b }) (record { cpu = v; memory = n; streams = b })
 fault_at i k c left u v m n b f (Next w rs to) told h un = absurd h
 fault_at i k c left u v m n b f (Called x) told h un = absurd h
 fault_at i k c left u v m n b f (Denied at) told h un = record {
@@ -107,38 +107,52 @@ fault_at i k c left u v m n b f Divided told h un = record {
 }
 
 pub carries_on : (i : Inst) (k c : ℕ) (u v : Cpu) (m n : MemoryView) (b : Streams) → Comes (perform (meaning i k u.regs u.eip u.df) c (view u) m.regions) outcome.Next u m v n → v.undefined ≡ u.undefined + bit (some_unmarked (flags_read i) u.known)
-  → Advance (There i k) (Ok (record { stop = answers.Budget; edge = edge_if (is_transfer i) u.eip v.eip })) c (record { cpu = u; memory = m; streams = b }) (record { cpu = v; memory = n; streams = b })
-carries_on i k c u v m n b h un = record { left = had b.input.bytes; told = told_had b.input.bytes;
-  gives = next_at i k c (had b.input.bytes) u v m n b (perform (meaning i k u.regs u.eip u.df) c (view u) m.regions) (told_had b.input.bytes) h un }
+    → Advance (There i k) (Ok (record { stop = answers.Budget; edge = edge_if (is_transfer i) u.eip v.eip })) c (record { cpu = u; memory = m; streams = b }) (record { cpu = v; memory = n; streams = b })
+carries_on i k c u v m n b h un = record {
+  left = had b.input.bytes;
+  told = told_had b.input.bytes;
+  gives = next_at i k c (had b.input.bytes) u v m n b (perform (meaning i k u.regs u.eip u.df) c (view u) m.regions) (told_had b.input.bytes) h un;
+}
 
 pub faults_at : (i : Inst) (k c : ℕ) (u v : Cpu) (m n : MemoryView) (b : Streams) (f : GuestFault) → Comes (perform (meaning i k u.regs u.eip u.df) c (view u) m.regions) (outcome.Fault f) u m v n → v.undefined ≡ u.undefined + bit (some_unmarked (flags_read i) u.known)
-  → Advance (There i k) (Ok (record { stop = answers.Fault f; edge = None })) c (record { cpu = u; memory = m; streams = b }) (record { cpu = v; memory = n; streams = b })
-faults_at i k c u v m n b f h un = record { left = had b.input.bytes; told = told_had b.input.bytes;
-  gives = fault_at i k c (had b.input.bytes) u v m n b f (perform (meaning i k u.regs u.eip u.df) c (view u) m.regions) (told_had b.input.bytes) h un }
+    → Advance (There i k) (Ok (record { stop = answers.Fault f; edge = None })) c (record { cpu = u; memory = m; streams = b }) (record { cpu = v; memory = n; streams = b })
+faults_at i k c u v m n b f h un = record {
+  left = had b.input.bytes;
+  told = told_had b.input.bytes;
+  gives = fault_at i k c (had b.input.bytes) u v m n b f (perform (meaning i k u.regs u.eip u.df) c (view u) m.regions) (told_had b.input.bytes) h un;
+}
 
 pub no_code : (c : ℕ) (u : Cpu) (m : MemoryView) (b : Streams) → Advance NoCode (Ok (record { stop = answers.Fault (Access u.eip); edge = None })) c (record { cpu = u; memory = m; streams = b }) (record { cpu = u; memory = m; streams = b })
-no_code c u m b = record { left = had b.input.bytes; told = told_had b.input.bytes; gives = record {
-  stop = refl;
-  edge = refl;
-  state = refl;
-  undefined = omega arith;
-  more = 0;
-  few = omega arith;
-  streams = passes_none _ b (told_had b.input.bytes) refl refl;
-  idle = λ _. refl;
-} }
+no_code c u m b = record {
+  left = had b.input.bytes;
+  told = told_had b.input.bytes;
+  gives = record {
+    stop = refl;
+    edge = refl;
+    state = refl;
+    undefined = omega arith;
+    more = 0;
+    few = omega arith;
+    streams = passes_none _ b (told_had b.input.bytes) refl refl;
+    idle = λ _. refl;
+  };
+}
 
 pub no_inst : (c : ℕ) (u : Cpu) (m : MemoryView) (b : Streams) → Advance NoInst (Ok (record { stop = answers.Fault (Illegal u.eip); edge = None })) c (record { cpu = u; memory = m; streams = b }) (record { cpu = u; memory = m; streams = b })
-no_inst c u m b = record { left = had b.input.bytes; told = told_had b.input.bytes; gives = record {
-  stop = refl;
-  edge = refl;
-  state = refl;
-  undefined = omega arith;
-  more = 0;
-  few = omega arith;
-  streams = passes_none _ b (told_had b.input.bytes) refl refl;
-  idle = λ _. refl;
-} }
+no_inst c u m b = record {
+  left = had b.input.bytes;
+  told = told_had b.input.bytes;
+  gives = record {
+    stop = refl;
+    edge = refl;
+    state = refl;
+    undefined = omega arith;
+    more = 0;
+    few = omega arith;
+    streams = passes_none _ b (told_had b.input.bytes) refl refl;
+    idle = λ _. refl;
+  };
+}
 
 -- ---- a system call
 
@@ -158,8 +172,8 @@ cpu_is v u a b =
     ap (λ c. f c v.undefined) a ∙ ap (λ n. f (view u) n) b
 
 int80_carries : (k c : ℕ) (u v : Cpu) (m n : MemoryView) (b : Streams) (r : Result Advanced SysError) (new : Machine)
-  → Comes (perform (meaning inst.Int80 k u.regs u.eip u.df) c (view u) m.regions) outcome.Trap u m v n → v.undefined ≡ u.undefined + bit (some_unmarked (flags_read inst.Int80) u.known)
-  → Trap u.eip r (record { cpu = v; memory = n; streams = b }) new → Advance (There inst.Int80 k) r c (record { cpu = u; memory = m; streams = b }) new
+    → Comes (perform (meaning inst.Int80 k u.regs u.eip u.df) c (view u) m.regions) outcome.Trap u m v n → v.undefined ≡ u.undefined + bit (some_unmarked (flags_read inst.Int80) u.known)
+    → Trap u.eip r (record { cpu = v; memory = n; streams = b }) new → Advance (There inst.Int80 k) r c (record { cpu = u; memory = m; streams = b }) new
 unfolding meaning
 int80_carries k c u v m n b r new h un t =
     let P : Cpu → Type 0 = λ x. AdvanceGives r (fed t.left (state_of x n)) (of_call v.eip (fed t.left (state_of x n))) (record { cpu = x; memory = n; streams = b }) new in
@@ -169,8 +183,8 @@ int80_carries k c u v m n b r new h un t =
     record { left = t.left; told = t.told; gives = subst R h.1 (subst Q h.2 (subst P (cpu_is v u h.0 same) t.gives)) }
 
 pub trap_carries : (i : Inst) (k c : ℕ) (u v : Cpu) (m n : MemoryView) (b : Streams) (r : Result Advanced SysError) (new : Machine)
-  → Comes (perform (meaning i k u.regs u.eip u.df) c (view u) m.regions) outcome.Trap u m v n → v.undefined ≡ u.undefined + bit (some_unmarked (flags_read i) u.known)
-  → Trap u.eip r (record { cpu = v; memory = n; streams = b }) new → Advance (There i k) r c (record { cpu = u; memory = m; streams = b }) new
+    → Comes (perform (meaning i k u.regs u.eip u.df) c (view u) m.regions) outcome.Trap u m v n → v.undefined ≡ u.undefined + bit (some_unmarked (flags_read i) u.known)
+    → Trap u.eip r (record { cpu = v; memory = n; streams = b }) new → Advance (There i k) r c (record { cpu = u; memory = m; streams = b }) new
 trap_carries i k c u v m n b r new h un t =
     let called = comes_called (perform (meaning i k u.regs u.eip u.df) c (view u) m.regions) u v m n h in
     let same = trap_is i (called_traps i k u.regs u.eip u.df c (view u) m.regions called.0 called.1) in

@@ -13,7 +13,7 @@ use Rattle.guest_run.specs.Advance.{IsFound}
 
 -- the first bytes tell what all of them do
 pub code_found : (o : Option (List ℕ)) (count : ℕ) (old new : List ℕ) (r : Option (Inst × ℕ)) → count ≡ length (fetched o) → new ≡ fetched o ++ drop count old → (o ≡ None → ⊥) → IfSome o IsBytes
-  → r ≡ decode_of (take count new) → found_in o ≡ found_from r
+    → r ≡ decode_of (take count new) → found_in o ≡ found_from r
 code_found None count old new r len is some fit e = absurd (some refl)
 code_found (Some bytes) count old new r len is some fit e =
     let front : take count new ≡ take 15 bytes = ap (λ t. take count t) is ∙ take_at (take 15 bytes) _ count (sym len) in

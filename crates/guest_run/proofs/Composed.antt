@@ -112,7 +112,7 @@ edge_first n s d h = running_some s.stop (edge_after n (step s 0) (first_edge (e
 
 -- the first step took of the input what the state has
 goes_on : (r : answer.Stop) (n : ℕ) (s : State) (g h : GuestView) (a b c : Streams) → s.stop ≡ Running
-  → Passes (step s 0) 0 a b → RunDone r n (fed (step s 0).input (bare (step s 0))) (stepped g s 0 (step s 0)) h b c → RunDone r (suc n) s g h a c
+    → Passes (step s 0) 0 a b → RunDone r n (fed (step s 0).input (bare (step s 0))) (stepped g s 0 (step s 0)) h b c → RunDone r (suc n) s g h a c
 goes_on r n s g h a b c run_s p d =
     let t = step s 0 in
     let t0 = fed t.input (bare t) in
@@ -138,7 +138,7 @@ goes_on r n s g h a b c run_s p d =
 
 -- the first step has stopped the guest
 stops : (r : answer.Stop) (n more : ℕ) (s : State) (g h : GuestView) (a b c : Streams) → s.stop ≡ Running → ((step s 0).stop ≡ Running → ⊥) → more ≤ ahead (step s 0)
-  → Passes (step s 0) more a b → RunDone r n (fed (drop more (step s 0).input) (bare (step s 0))) (stepped g s 0 (step s 0)) h b c → RunDone r (suc n) s g h a c
+    → Passes (step s 0) more a b → RunDone r n (fed (drop more (step s 0).input) (bare (step s 0))) (stepped g s 0 (step s 0)) h b c → RunDone r (suc n) s g h a c
 stops r n more s g h a b c run_s stopped le p d =
     let t = step s 0 in
     let t0 = fed (drop more t.input) (bare t) in
@@ -166,13 +166,14 @@ stops r n more s g h a b c run_s stopped le p d =
     }
 
 pub run_more : (r : answer.Stop) (n more : ℕ) (s : State) (g h : GuestView) (a b c : Streams) → s.stop ≡ Running → more ≤ ahead (step s 0)
-  → Passes (step s 0) more a b → RunDone r n (fed (drop more (step s 0).input) (bare (step s 0))) (stepped g s 0 (step s 0)) h b c → RunDone r (suc n) s g h a c
+    → Passes (step s 0) more a b → RunDone r n (fed (drop more (step s 0).input) (bare (step s 0))) (stepped g s 0 (step s 0)) h b c → RunDone r (suc n) s g h a c
 run_more r n more s g h a b c run_s le p d = go (step s 0).stop refl where
   at_end : (x : Stop) → (step s 0).stop ≡ x → spare x (asks_next (step s 0)) ≡ 0 → RunDone r (suc n) s g h a c
   at_end x e z =
       let none : more ≡ 0 = omega (arith, le, ap (λ y. spare y (asks_next (step s 0))) e, z) in
       let P : ℕ → Type 0 = λ k. Passes (step s 0) k a b → RunDone r n (fed (drop k (step s 0).input) (bare (step s 0))) (stepped g s 0 (step s 0)) h b c → RunDone r (suc n) s g h a c in
       subst P (sym none) (λ p d. goes_on r n s g h a b c run_s p d) p d
+
   go : (x : Stop) → (step s 0).stop ≡ x → RunDone r (suc n) s g h a c
   go Running e = at_end Running e refl
   go (Exited k) e = at_end (Exited k) e refl

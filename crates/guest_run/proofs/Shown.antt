@@ -23,19 +23,19 @@ way_shown w e (On t) = On (shown w e t)
 way_shown w e (Bad f) = Bad f
 
 read_shown : (w e : List ℕ) (s : State) (next at : ℕ) (new : List ℕ) (b : Bool) (o : Option (List Region))
-  → (if b then or_bad at o (λ rs. On (record (answers (length new) next (shown w e s)) { regions = rs; input = drop (length new) s.input })) else On (answers (2 ^ 32 - 9) next (shown w e s)))
-  ≡ way_shown w e (if b then or_bad at o (λ rs. On (record (answers (length new) next s) { regions = rs; input = drop (length new) s.input })) else On (answers (2 ^ 32 - 9) next s))
+    → (if b then or_bad at o (λ rs. On (record (answers (length new) next (shown w e s)) { regions = rs; input = drop (length new) s.input })) else On (answers (2 ^ 32 - 9) next (shown w e s)))
+    ≡ way_shown w e (if b then or_bad at o (λ rs. On (record (answers (length new) next s) { regions = rs; input = drop (length new) s.input })) else On (answers (2 ^ 32 - 9) next s))
 read_shown w e s next at new true None = refl
 read_shown w e s next at new true (Some rs) = refl
 read_shown w e s next at new false o = refl
 
 write_shown : (w e : List ℕ) (s : State) (next at n : ℕ) (b c : Bool) (o : Option (List ℕ))
-  → (if b then or_bad at o (λ bs. On (record (answers n next (shown w e s)) { out = (w ++ s.out) ++ bs }))
-     else if c then or_bad at o (λ bs. On (record (answers n next (shown w e s)) { err = (e ++ s.err) ++ bs }))
-     else On (answers (2 ^ 32 - 9) next (shown w e s)))
-  ≡ way_shown w e (if b then or_bad at o (λ bs. On (record (answers n next s) { out = s.out ++ bs }))
-     else if c then or_bad at o (λ bs. On (record (answers n next s) { err = s.err ++ bs }))
-     else On (answers (2 ^ 32 - 9) next s))
+    → (if b then or_bad at o (λ bs. On (record (answers n next (shown w e s)) { out = (w ++ s.out) ++ bs }))
+    else if c then or_bad at o (λ bs. On (record (answers n next (shown w e s)) { err = (e ++ s.err) ++ bs }))
+    else On (answers (2 ^ 32 - 9) next (shown w e s)))
+    ≡ way_shown w e (if b then or_bad at o (λ bs. On (record (answers n next s) { out = s.out ++ bs }))
+    else if c then or_bad at o (λ bs. On (record (answers n next s) { err = s.err ++ bs }))
+    else On (answers (2 ^ 32 - 9) next s))
 write_shown w e s next at n true c None = refl
 write_shown w e s next at n true c (Some bs) = ap (λ x. On (record (answers n next (shown w e s)) { out = x })) (append_assoc w s.out bs)
 write_shown w e s next at n false true None = refl
@@ -43,14 +43,14 @@ write_shown w e s next at n false true (Some bs) = ap (λ x. On (record (answers
 write_shown w e s next at n false false o = refl
 
 brk_shown : (w e : List ℕ) (s : State) (next to : ℕ) (rs : List Region) (b : Bool)
-  → (if b then On (record (answers to next (shown w e s)) { brk = to; regions = rs }) else On (answers s.brk next (shown w e s)))
-  ≡ way_shown w e (if b then On (record (answers to next s) { brk = to; regions = rs }) else On (answers s.brk next s))
+    → (if b then On (record (answers to next (shown w e s)) { brk = to; regions = rs }) else On (answers s.brk next (shown w e s)))
+    ≡ way_shown w e (if b then On (record (answers to next s) { brk = to; regions = rs }) else On (answers s.brk next s))
 brk_shown w e s next to rs true = refl
 brk_shown w e s next to rs false = refl
 
 choose_shown : (w e : List ℕ) (p q r t : Bool) (a b c d f a' b' c' d' f' : Way)
-  → a ≡ way_shown w e a' → b ≡ way_shown w e b' → c ≡ way_shown w e c' → d ≡ way_shown w e d' → f ≡ way_shown w e f'
-  → (if p then a else if q then b else if r then c else if t then d else f) ≡ way_shown w e (if p then a' else if q then b' else if r then c' else if t then d' else f')
+    → a ≡ way_shown w e a' → b ≡ way_shown w e b' → c ≡ way_shown w e c' → d ≡ way_shown w e d' → f ≡ way_shown w e f'
+    → (if p then a else if q then b else if r then c else if t then d else f) ≡ way_shown w e (if p then a' else if q then b' else if r then c' else if t then d' else f')
 choose_shown w e true q r t a b c d f a' b' c' d' f' u v x y z = u
 choose_shown w e false true r t a b c d f a' b' c' d' f' u v x y z = v
 choose_shown w e false false true t a b c d f a' b' c' d' f' u v x y z = x

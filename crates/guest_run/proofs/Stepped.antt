@@ -40,51 +40,59 @@ state_is v n t stop a b =
     ap (λ x. f x (stop_of stop)) a ∙ ap (λ y. f (bare t) y) (ap stop_of b ∙ stop_again t.stop)
 
 at_budget : (c : ℕ) (u v : Cpu) (m n : MemoryView) (b a : Streams) (x : Advanced) (steps : ℕ) (edge : Option Edge) (live : Bool) → live ≡ true
-  → Advance (found u.eip m.regions) (Ok x) c (record { cpu = u; memory = m; streams = b }) (record { cpu = v; memory = n; streams = a })
-  → Steps (Ok true) c (view_of u m answers.Budget steps edge live) (view_of v n x.stop (steps + 1) x.edge live) b a
+    → Advance (found u.eip m.regions) (Ok x) c (record { cpu = u; memory = m; streams = b }) (record { cpu = v; memory = n; streams = a })
+    → Steps (Ok true) c (view_of u m answers.Budget steps edge live) (view_of v n x.stop (steps + 1) x.edge live) b a
 unfolding step
 at_budget c u v m n b a x steps edge live on d =
     let s = fed d.left (state_of u m) in
     let g = view_of u m answers.Budget steps edge live in
     let P : Bool → Type 0 = λ l. (let h : GuestView = record { state = record (state_of v n) { stop = stop_of x.stop }; steps = steps + 1; undefined = v.undefined; edge = x.edge; live = l } in h) ≡ stepped g s c (step s c) in
-    record { left = d.left; told = d.told; gives = record {
-      running = refl;
-      guest = subst P (sym on) (viewed_is _ _ (steps + 1) _ _ _ _
-        (state_is v n (step s c) x.stop d.gives.state d.gives.stop) d.gives.undefined
-        (d.gives.edge ∙ sym (ap first_edge (edge_same (found s.eip s.regions) s c refl))));
-      more = d.gives.more;
-      few = few_ahead (step_way s c) s d.gives.more (way_done (found s.eip s.regions) s c refl) d.gives.few;
-      streams = d.gives.streams;
-      idle = d.gives.idle;
-    } }
+    record {
+      left = d.left;
+      told = d.told;
+      gives = record {
+        running = refl;
+        guest = subst P (sym on) (viewed_is _ _ (steps + 1) _ _ _ _
+            (state_is v n (step s c) x.stop d.gives.state d.gives.stop) d.gives.undefined
+            (d.gives.edge ∙ sym (ap first_edge (edge_same (found s.eip s.regions) s c refl))));
+        more = d.gives.more;
+        few = few_ahead (step_way s c) s d.gives.more (way_done (found s.eip s.regions) s c refl) d.gives.few;
+        streams = d.gives.streams;
+        idle = d.gives.idle;
+      };
+    }
 
 fails_at_budget : (c : ℕ) (u v : Cpu) (m n : MemoryView) (b a : Streams) (e : SysError) (steps : ℕ) (edge : Option Edge) (live : Bool)
-  → Advance (found u.eip m.regions) (Err e) c (record { cpu = u; memory = m; streams = b }) (record { cpu = v; memory = n; streams = a })
-  → Steps (Err e) c (view_of u m answers.Budget steps edge live) (view_of v n answers.Budget steps edge false) b a
+    → Advance (found u.eip m.regions) (Err e) c (record { cpu = u; memory = m; streams = b }) (record { cpu = v; memory = n; streams = a })
+    → Steps (Err e) c (view_of u m answers.Budget steps edge live) (view_of v n answers.Budget steps edge false) b a
 unfolding step
 fails_at_budget c u v m n b a e steps edge live d =
     let f : Cpu → MemoryView → GuestView = λ v n. view_of v n answers.Budget steps edge false in
-    record { left = d.left; told = d.told; gives = record {
-      running = refl;
-      trap = d.gives.trap;
-      call = d.gives.call;
-      guest = ap (λ v. f v n) d.gives.cpu ∙ ap (λ n. f u n) d.gives.memory;
-      streams = d.gives.streams;
-    } }
+    record {
+      left = d.left;
+      told = d.told;
+      gives = record {
+        running = refl;
+        trap = d.gives.trap;
+        call = d.gives.call;
+        guest = ap (λ v. f v n) d.gives.cpu ∙ ap (λ n. f u n) d.gives.memory;
+        streams = d.gives.streams;
+      };
+    }
 
 pub step_none : (c : ℕ) (g : GuestView) (b : Streams) → (g.state.stop ≡ Running → ⊥) → Steps (Ok false) c g g b b
 step_none c g b h = record { left = had b.input.bytes; told = told_had b.input.bytes; gives = record { stopped = h; guest = refl; streams = refl } }
 
 pub step_done : (c : ℕ) (u v : Cpu) (m n : MemoryView) (b a : Streams) (x : Advanced) (stop : answer.Stop) (steps : ℕ) (edge : Option Edge) (live : Bool) → stop ≡ answers.Budget → live ≡ true
-  → Advance (found u.eip m.regions) (Ok x) c (record { cpu = u; memory = m; streams = b }) (record { cpu = v; memory = n; streams = a })
-  → Steps (Ok true) c (view_of u m stop steps edge live) (view_of v n x.stop (steps + 1) x.edge live) b a
+    → Advance (found u.eip m.regions) (Ok x) c (record { cpu = u; memory = m; streams = b }) (record { cpu = v; memory = n; streams = a })
+    → Steps (Ok true) c (view_of u m stop steps edge live) (view_of v n x.stop (steps + 1) x.edge live) b a
 step_done c u v m n b a x stop steps edge live is on d =
     let P : answer.Stop → Type 0 = λ stop. Steps (Ok true) c (view_of u m stop steps edge live) (view_of v n x.stop (steps + 1) x.edge live) b a in
     subst P (sym is) (at_budget c u v m n b a x steps edge live on d)
 
 pub step_failed : (c : ℕ) (u v : Cpu) (m n : MemoryView) (b a : Streams) (e : SysError) (stop : answer.Stop) (steps : ℕ) (edge : Option Edge) (live : Bool) → stop ≡ answers.Budget
-  → Advance (found u.eip m.regions) (Err e) c (record { cpu = u; memory = m; streams = b }) (record { cpu = v; memory = n; streams = a })
-  → Steps (Err e) c (view_of u m stop steps edge live) (view_of v n stop steps edge false) b a
+    → Advance (found u.eip m.regions) (Err e) c (record { cpu = u; memory = m; streams = b }) (record { cpu = v; memory = n; streams = a })
+    → Steps (Err e) c (view_of u m stop steps edge live) (view_of v n stop steps edge false) b a
 step_failed c u v m n b a e stop steps edge live is d =
     let P : answer.Stop → Type 0 = λ stop. Steps (Err e) c (view_of u m stop steps edge live) (view_of v n stop steps edge false) b a in
     subst P (sym is) (fails_at_budget c u v m n b a e steps edge live d)

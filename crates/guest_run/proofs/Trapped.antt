@@ -48,8 +48,8 @@ stopped stop = record { stop = stop; edge = None }
 
 -- s is the state at the instruction, and eip of u stands behind it
 done_at : (at : ℕ) (left : List ℕ) (u v : Cpu) (m n : MemoryView) (b a : Streams) (called : Called) (w : Way) → IsNoFault called
-  → Does (fed left (state_of u m)) (settled w (fed left (state_of u m))) called (record { cpu = u; memory = m; streams = b }) (record { cpu = v; memory = n; streams = a })
-  → Advances (fed left (state_of (record u { eip = at }) m)) (of_way (fed left (state_of (record u { eip = at }) m)) w) (stopped (stop_as called)) (record { cpu = record u { eip = at }; memory = m; streams = b }) (record { cpu = v; memory = n; streams = a })
+    → Does (fed left (state_of u m)) (settled w (fed left (state_of u m))) called (record { cpu = u; memory = m; streams = b }) (record { cpu = v; memory = n; streams = a })
+    → Advances (fed left (state_of (record u { eip = at }) m)) (of_way (fed left (state_of (record u { eip = at }) m)) w) (stopped (stop_as called)) (record { cpu = record u { eip = at }; memory = m; streams = b }) (record { cpu = v; memory = n; streams = a })
 done_at at left u v m n b a called (On t) sound d = record {
   stop = ap stop_as d.answer ∙ stop_is t.stop;
   edge = refl;
@@ -70,8 +70,8 @@ no_fault f s (inl r) e = let h = e ∙ ap calls.answer_of r in cc
 no_fault f s (inr x) e = let h = e ∙ ap calls.answer_of x.1 in cc
 
 fault_at : (at : ℕ) (left : List ℕ) (u v : Cpu) (m n : MemoryView) (b a : Streams) (f : GuestFault) (w : Way) → IsDone w
-  → Does (fed left (state_of u m)) (settled w (fed left (state_of u m))) (Fault f) (record { cpu = u; memory = m; streams = b }) (record { cpu = v; memory = n; streams = a })
-  → Advances (fed left (state_of (record u { eip = at }) m)) (of_way (fed left (state_of (record u { eip = at }) m)) w) (stopped (answers.Fault f)) (record { cpu = record u { eip = at }; memory = m; streams = b }) (record { cpu = record v { eip = at }; memory = n; streams = a })
+    → Does (fed left (state_of u m)) (settled w (fed left (state_of u m))) (Fault f) (record { cpu = u; memory = m; streams = b }) (record { cpu = v; memory = n; streams = a })
+    → Advances (fed left (state_of (record u { eip = at }) m)) (of_way (fed left (state_of (record u { eip = at }) m)) w) (stopped (answers.Fault f)) (record { cpu = record u { eip = at }; memory = m; streams = b }) (record { cpu = record v { eip = at }; memory = n; streams = a })
 fault_at at left u v m n b a f (On t) done d = absurd (no_fault f t.stop done d.answer)
 fault_at at left u v m n b a f (Bad g) done d = record {
   stop = fault_same f g d.answer;
@@ -93,8 +93,8 @@ wants Report s t b a (inl h) f = h
 wants Report s t b a (inr h) f = absurd (f.0.some h.1)
 
 fails_at : (at : ℕ) (e : SysError) (left : List ℕ) (u : Cpu) (m : MemoryView) (b a : Streams) (w : Way)
-  → FailsAt e (fed left (state_of u m)) (settled w (fed left (state_of u m))) b a
-  → FailsAt e (fed left (state_of (record u { eip = at }) m)) (settled w (fed left (state_of (record u { eip = at }) m))) b a
+    → FailsAt e (fed left (state_of u m)) (settled w (fed left (state_of u m))) b a
+    → FailsAt e (fed left (state_of (record u { eip = at }) m)) (settled w (fed left (state_of (record u { eip = at }) m))) b a
 fails_at at Input left u m b a w f = record { taken = f.taken; few = f.few; left = f.left; fails = f.fails; out = f.out; err = f.err }
 fails_at at Memory left u m b a w f = record { wanted = f.wanted; taken = f.taken; few = f.few; input = f.input; out = f.out; err = f.err }
 fails_at at Out left u m b a (On t) f = f
@@ -103,7 +103,7 @@ fails_at at Report left u m b a (On t) f = f
 fails_at at Report left u m b a (Bad g) f = f
 
 pub trap_done : (at : ℕ) (u v : Cpu) (m n : MemoryView) (i o e j p f : StreamView) (called : Called) → IsNoFault called
-  → Calls (Ok called) (machine u m i o e) (machine v n j p f) → Trap at (Ok (stopped (stop_as called))) (machine u m i o e) (machine v n j p f)
+    → Calls (Ok called) (machine u m i o e) (machine v n j p f) → Trap at (Ok (stopped (stop_as called))) (machine u m i o e) (machine v n j p f)
 trap_done at u v m n i o e j p f called sound c =
     let s = fed c.left (state_of u m) in
     let t = fed c.left (state_of (record u { eip = at }) m) in
@@ -111,7 +111,7 @@ trap_done at u v m n i o e j p f called sound c =
     record { left = c.left; told = c.told; gives = subst P (sym (system_eip u.eip at s)) (done_at at c.left u v m n _ _ called (system u.eip s) sound c.gives) }
 
 pub trap_fault : (at : ℕ) (u v : Cpu) (m n : MemoryView) (i o e j p f : StreamView) (g : GuestFault)
-  → Calls (Ok (Fault g)) (machine u m i o e) (machine v n j p f) → Trap at (Ok (stopped (answers.Fault g))) (machine u m i o e) (machine (record v { eip = at }) n j p f)
+    → Calls (Ok (Fault g)) (machine u m i o e) (machine v n j p f) → Trap at (Ok (stopped (answers.Fault g))) (machine u m i o e) (machine (record v { eip = at }) n j p f)
 trap_fault at u v m n i o e j p f g c =
     let s = fed c.left (state_of u m) in
     let t = fed c.left (state_of (record u { eip = at }) m) in
@@ -119,15 +119,19 @@ trap_fault at u v m n i o e j p f g c =
     record { left = c.left; told = c.told; gives = subst P (sym (system_eip u.eip at s)) (fault_at at c.left u v m n _ _ g (system u.eip s) (system_done u.eip s refl) c.gives) }
 
 pub trap_fails : (at : ℕ) (u v : Cpu) (m n : MemoryView) (i o e j p f : StreamView) (x : SysError)
-  → Calls (Err x) (machine u m i o e) (machine v n j p f) → Trap at (Err x) (machine u m i o e) (machine (record v { eip = at }) n j p f)
+    → Calls (Err x) (machine u m i o e) (machine v n j p f) → Trap at (Err x) (machine u m i o e) (machine (record v { eip = at }) n j p f)
 trap_fails at u v m n i o e j p f x c =
     let s = fed c.left (state_of u m) in
     let t = fed c.left (state_of (record u { eip = at }) m) in
     let P : Way → Type 0 = λ w. AdvanceFails x t (of_way t w) (machine (record u { eip = at }) m i o e) (machine (record v { eip = at }) n j p f) in
-    record { left = c.left; told = c.told; gives = subst P (sym (system_eip u.eip at s)) (record {
-      trap = refl;
-      call = wants x s (after_call s) _ _ (system_silent u.eip s) c.gives.2;
-      cpu = ap (λ (w : Cpu). record w { eip = at }) c.gives.0;
-      memory = c.gives.1;
-      streams = fails_at at x c.left u m _ _ (system u.eip s) c.gives.2;
-    }) }
+    record {
+      left = c.left;
+      told = c.told;
+      gives = subst P (sym (system_eip u.eip at s)) (record {
+        trap = refl;
+        call = wants x s (after_call s) _ _ (system_silent u.eip s) c.gives.2;
+        cpu = ap (λ (w : Cpu). record w { eip = at }) c.gives.0;
+        memory = c.gives.1;
+        streams = fails_at at x c.left u m _ _ (system u.eip s) c.gives.2;
+      });
+    }

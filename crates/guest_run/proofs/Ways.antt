@@ -23,13 +23,13 @@ exit_fine : (s : State) (next : ℕ) → IsFine s (call_exit next s)
 exit_fine s next = let e : (n : ℕ) × (Exited (get_or s.cpu.regs 3 0 % 256) ≡ Exited n) = (get_or s.cpu.regs 3 0 % 256, refl) in (inr e, inr (refl, refl))
 
 read_fine : (s : State) (next at : ℕ) (new : List ℕ) (b : Bool) (o : Option (List Region))
-  → IsFine s (if b then or_bad at o (λ rs. On (record (answers (length new) next s) { regions = rs; input = drop (length new) s.input })) else On (answers (2 ^ 32 - 9) next s))
+    → IsFine s (if b then or_bad at o (λ rs. On (record (answers (length new) next s) { regions = rs; input = drop (length new) s.input })) else On (answers (2 ^ 32 - 9) next s))
 read_fine s next at new true None = tt
 read_fine s next at new true (Some rs) = (inl refl, inr (refl, refl))
 read_fine s next at new false o = (inl refl, inr (refl, refl))
 
 write_fine : (s : State) (next at n : ℕ) (b c : Bool) (o : Option (List ℕ)) → IsTrue (takes_memory s)
-  → IsFine s (if b then or_bad at o (λ bs. On (record (answers n next s) { out = s.out ++ bs })) else if c then or_bad at o (λ bs. On (record (answers n next s) { err = s.err ++ bs })) else On (answers (2 ^ 32 - 9) next s))
+    → IsFine s (if b then or_bad at o (λ bs. On (record (answers n next s) { out = s.out ++ bs })) else if c then or_bad at o (λ bs. On (record (answers n next s) { err = s.err ++ bs })) else On (answers (2 ^ 32 - 9) next s))
 write_fine s next at n true c None h = tt
 write_fine s next at n true c (Some bs) h = (inl refl, inl h)
 write_fine s next at n false true None h = tt
@@ -37,12 +37,12 @@ write_fine s next at n false true (Some bs) h = (inl refl, inl h)
 write_fine s next at n false false o h = (inl refl, inl h)
 
 brk_fine : (s : State) (next to : ℕ) (rs : List Region) (b : Bool)
-  → IsFine s (if b then On (record (answers to next s) { brk = to; regions = rs }) else On (answers s.brk next s))
+    → IsFine s (if b then On (record (answers to next s) { brk = to; regions = rs }) else On (answers s.brk next s))
 brk_fine s next to rs true = (inl refl, inr (refl, refl))
 brk_fine s next to rs false = (inl refl, inr (refl, refl))
 
 choose_fine : (s : State) (p q r t : Bool) (a b c d f : Way) → IsFine s a → IsFine s b → (r ≡ true → IsFine s c) → IsFine s d → IsFine s f
-  → IsFine s (if p then a else if q then b else if r then c else if t then d else f)
+    → IsFine s (if p then a else if q then b else if r then c else if t then d else f)
 choose_fine s true q r t a b c d f u v x y z = u
 choose_fine s false true r t a b c d f u v x y z = v
 choose_fine s false false true t a b c d f u v x y z = x refl

@@ -40,7 +40,7 @@ fails_later Report t u v a b c p f = (part_then a.err b.err c.err t.err u.err v.
 fails_later Memory t u v a b c p f = ((f.0.0, f.0.1, leaves_then a.input b.input c.input _ _ p.input f.0.2), unchanged_then a.out b.out c.out _ _ p.out f.1, unchanged_then a.err b.err c.err _ _ p.err f.2)
 
 fails_on : (e : SysError) (n : ℕ) (s : State) (g h : GuestView) (a b c : Streams) → Passes (step s 0) 0 a b
-  → RunFailed e n (fed (step s 0).input (bare (step s 0))) (stepped g s 0 (step s 0)) h b c → RunFailed e (suc n) s g h a c
+    → RunFailed e n (fed (step s 0).input (bare (step s 0))) (stepped g s 0 (step s 0)) h b c → RunFailed e (suc n) s g h a c
 fails_on e n s g h a b c p f =
     let t = step s 0 in
     let t0 = fed t.input (bare t) in
@@ -60,13 +60,14 @@ fails_on e n s g h a b c p f =
     }
 
 run_fails_more : (e : SysError) (n more : ℕ) (s : State) (g h : GuestView) (a b c : Streams) → more ≤ ahead (step s 0) → Passes (step s 0) more a b
-  → RunFailed e n (fed (drop more (step s 0).input) (bare (step s 0))) (stepped g s 0 (step s 0)) h b c → RunFailed e (suc n) s g h a c
+    → RunFailed e n (fed (drop more (step s 0).input) (bare (step s 0))) (stepped g s 0 (step s 0)) h b c → RunFailed e (suc n) s g h a c
 run_fails_more e n more s g h a b c le p f = go (step s 0).stop refl where
   at_end : (x : Stop) → (step s 0).stop ≡ x → spare x (asks_next (step s 0)) ≡ 0 → RunFailed e (suc n) s g h a c
   at_end x q z =
       let none : more ≡ 0 = omega (arith, le, ap (λ y. spare y (asks_next (step s 0))) q, z) in
       let P : ℕ → Type 0 = λ k. Passes (step s 0) k a b → RunFailed e n (fed (drop k (step s 0).input) (bare (step s 0))) (stepped g s 0 (step s 0)) h b c → RunFailed e (suc n) s g h a c in
       subst P (sym none) (λ p f. fails_on e n s g h a b c p f) p f
+
   go : (x : Stop) → (step s 0).stop ≡ x → RunFailed e (suc n) s g h a c
   go Running q = at_end Running q refl
   go (Exited k) q = at_end (Exited k) q refl
@@ -109,14 +110,14 @@ gives_more r n left g k h a b c d w told =
 
 pub runs_more : (r : Result answer.Stop SysError) (n : ℕ) (g k h : GuestView) (a b c : Streams) → Steps (Ok true) 0 g k a b → Runs r n k h b c → Runs r (suc n) g h a c
 runs_more r n g k h a b c d w = record {
-    ends = ends_more r n g k h a b c (ap (λ (x : GuestView). x.steps) d.gives.guest) (steady_of _ _ a b d.gives.streams) w.ends;
-    told = go a.input.bytes refl d.told;
-  }
+  ends = ends_more r n g k h a b c (ap (λ (x : GuestView). x.steps) d.gives.guest) (steady_of _ _ a b d.gives.streams) w.ends;
+  told = go a.input.bytes refl d.told;
+}
   where
     go : (o : Option (List ℕ)) → a.input.bytes ≡ o → IfSome o (λ told. told ≡ d.left) → IfSome o (λ l. RunGives r (suc n) (fed l g.state) g h a c)
     go None q t = tt
     go (Some l) q t = let P : List ℕ → Type 0 = λ l. RunGives r (suc n) (fed l g.state) g h a c in
-      subst P (sym t) (gives_more r n d.left g k h a b c d.gives w (q ∙ ap Some t))
+        subst P (sym t) (gives_more r n d.left g k h a b c d.gives w (q ∙ ap Some t))
 
 -- ---- the end
 
@@ -129,9 +130,9 @@ same_passes t a told out err = record { input = leaves_same a.input t.input told
 -- no step is left
 pub runs_none : (g : GuestView) (a : Streams) → g.live ≡ true → g.state ≡ bare g.state → Runs (Ok (answer_of g.state.stop)) 0 g g a a
 runs_none g a live is = record {
-    ends = record { answer = refl; live = live; most = omega arith; all = λ q. omega arith; streams = all_same a };
-    told = go a.input.bytes refl;
-  }
+  ends = record { answer = refl; live = live; most = omega arith; all = λ q. omega arith; streams = all_same a };
+  told = go a.input.bytes refl;
+}
   where
     go : (o : Option (List ℕ)) → a.input.bytes ≡ o → IfSome o (λ l. RunGives (Ok (answer_of g.state.stop)) 0 (fed l g.state) g g a a)
     go None q = tt
@@ -149,27 +150,27 @@ runs_none g a live is = record {
 -- the guest has stopped
 pub runs_stopped : (n : ℕ) (g : GuestView) (a : Streams) → g.live ≡ true → g.state ≡ bare g.state → (g.state.stop ≡ Running → ⊥) → Runs (Ok (answer_of g.state.stop)) n g g a a
 runs_stopped n g a live is stopped = record {
-    ends = record { answer = refl; live = live; most = omega arith; all = λ q. absurd (stopped q); streams = all_same a };
-    told = go a.input.bytes refl;
-  }
+  ends = record { answer = refl; live = live; most = omega arith; all = λ q. absurd (stopped q); streams = all_same a };
+  told = go a.input.bytes refl;
+}
   where
     go : (o : Option (List ℕ)) → a.input.bytes ≡ o → IfSome o (λ l. RunGives (Ok (answer_of g.state.stop)) n (fed l g.state) g g a a)
     go None q = tt
     go (Some l) q = (
-      let P : Option (List ℕ) → Type 0 = λ o. IfSome o (λ told. told ≡ l) in
-      let s = fed l g.state in
-      let same : run n s [] ≡ s = run_none n s stopped in
-      let Q : State → Type 0 = λ t. Passes t 0 a a in
-      record {
-        answer = ap (λ (t : State). answer_of t.stop) (sym same);
-        state = is ∙ ap bare (sym same);
-        steps = omega (arith, steps_none n s stopped);
-        undefined = omega (arith, undefined_none n s stopped);
-        edge = sym (edge_none n s g.edge stopped);
-        more = 0;
-        few = omega arith;
-        streams = subst Q (sym same) (same_passes s a (subst P (sym q) refl) (ap (λ (s : State). s.out) is) (ap (λ (s : State). s.err) is));
-      })
+        let P : Option (List ℕ) → Type 0 = λ o. IfSome o (λ told. told ≡ l) in
+        let s = fed l g.state in
+        let same : run n s [] ≡ s = run_none n s stopped in
+        let Q : State → Type 0 = λ t. Passes t 0 a a in
+        record {
+          answer = ap (λ (t : State). answer_of t.stop) (sym same);
+          state = is ∙ ap bare (sym same);
+          steps = omega (arith, steps_none n s stopped);
+          undefined = omega (arith, undefined_none n s stopped);
+          edge = sym (edge_none n s g.edge stopped);
+          more = 0;
+          few = omega arith;
+          streams = subst Q (sym same) (same_passes s a (subst P (sym q) refl) (ap (λ (s : State). s.out) is) (ap (λ (s : State). s.err) is));
+        })
 
 -- the next step fails
 steady_is : (x y : StreamView) → y ≡ x → Steady x y
@@ -201,26 +202,26 @@ one_now Memory u v a c f = record { input = f.input.steady; out = f.out.steady; 
 
 pub runs_failed : (e : SysError) (n : ℕ) (g h : GuestView) (a c : Streams) → g.state ≡ bare g.state → Steps (Err e) 0 g h a c → Runs (Err e) (suc n) g h a c
 runs_failed e n g h a c is d = record {
-    ends = record {
-      live = ap (λ (x : GuestView). x.live) d.gives.guest;
-      most = omega (arith, ap (λ (x : GuestView). x.steps) d.gives.guest);
-      streams = one_now e (fed d.left g.state) (step (fed d.left g.state) 0) a c d.gives.streams;
-    };
-    told = go a.input.bytes refl d.told;
-  }
+  ends = record {
+    live = ap (λ (x : GuestView). x.live) d.gives.guest;
+    most = omega (arith, ap (λ (x : GuestView). x.steps) d.gives.guest);
+    streams = one_now e (fed d.left g.state) (step (fed d.left g.state) 0) a c d.gives.streams;
+  };
+  told = go a.input.bytes refl d.told;
+}
   where
     go : (o : Option (List ℕ)) → a.input.bytes ≡ o → IfSome o (λ told. told ≡ d.left) → IfSome o (λ l. RunGives (Err e) (suc n) (fed l g.state) g h a c)
     go None q t = tt
     go (Some l) q t = (
-      let P : List ℕ → Type 0 = λ l. RunGives (Err e) (suc n) (fed l g.state) g h a c in
-      subst P (sym t) (record {
-        done = 0;
-        within = omega arith;
-        running = d.gives.running;
-        state = ap (λ (x : GuestView). x.state) d.gives.guest ∙ is;
-        steps = omega (arith, ap (λ (x : GuestView). x.steps) d.gives.guest);
-        streams = fails_now e (fed d.left g.state) (step (fed d.left g.state) 0) a c d.told (ap (λ (s : State). s.out) is) (ap (λ (s : State). s.err) is) d.gives.streams;
-      }))
+        let P : List ℕ → Type 0 = λ l. RunGives (Err e) (suc n) (fed l g.state) g h a c in
+        subst P (sym t) (record {
+          done = 0;
+          within = omega arith;
+          running = d.gives.running;
+          state = ap (λ (x : GuestView). x.state) d.gives.guest ∙ is;
+          steps = omega (arith, ap (λ (x : GuestView). x.steps) d.gives.guest);
+          streams = fails_now e (fed d.left g.state) (step (fed d.left g.state) 0) a c d.told (ap (λ (s : State). s.out) is) (ap (λ (s : State). s.err) is) d.gives.streams;
+        }))
 
 -- ---- the loop
 

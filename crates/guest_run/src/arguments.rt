@@ -12,10 +12,7 @@ pub fn args_fit(args: &[String]) -> bool
         return false;
     }
     for arg in args {
-        if arg.len() > 65536 {
-            return false;
-        }
-        total += arg.len() + 1;
+        total = total.saturating_add(arg.len()).saturating_add(1);
     }
     total <= 65536
 }

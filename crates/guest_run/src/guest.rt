@@ -107,7 +107,15 @@ impl Guest {
         if !is_running(self.stop) {
             return Ok(false);
         }
-        match advance(self.alloc, &mut self.cpu, &mut self.memory, choice, input, out, err) {
+        match advance(
+            self.alloc,
+            &mut self.cpu,
+            &mut self.memory,
+            choice,
+            input,
+            out,
+            err,
+        ) {
             Err(error) => {
                 self.live = false;
                 Err(error)

@@ -12,6 +12,6 @@ invariant-loop-step g l = record {
   room : l.self.steps + (l.budget - l._step) ≤ 10 ^ 18;
   whole : l.self.state ≡ bare l.self.state;
   rest : (r : Result Stop SysError) (h : GuestView) (after : Streams)
-    → Runs r (l.budget - l._step) l.self h (streams (g.I.Source.seen l.input) (g.O.Sink.seen l.out) (g.E.Sink.seen l.err)) after
-    → Runs r l.budget l.initial.self h (streams (g.I.Source.seen l.initial.input) (g.O.Sink.seen l.initial.out) (g.E.Sink.seen l.initial.err)) after;
+      → Runs r (l.budget - l._step) l.self h (streams (g.I.Source.seen l.input) (g.O.Sink.seen l.out) (g.E.Sink.seen l.err)) after
+      → Runs r l.budget l.initial.self h (streams (g.I.Source.seen l.initial.input) (g.O.Sink.seen l.initial.out) (g.E.Sink.seen l.initial.err)) after;
 }
