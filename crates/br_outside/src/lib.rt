@@ -6,7 +6,7 @@
 
 pub mod errors;
 pub mod failing;
-pub mod pairs;
+mod pairs;
 pub mod shelves;
 pub mod sinks;
 pub mod sources;

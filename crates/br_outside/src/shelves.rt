@@ -161,10 +161,19 @@ mod tests {
         assert_eq!(rt; shelf.store("a", b"lost"), Err(StoreError::Failed));
         assert_eq!(rt; shelf.get("a"), Some(&b"first"[..]));
         assert_eq!(rt; shelf.store("a", b"new"), Ok(()));
-        assert_eq!(rt; length_of(&mut shelf, alloc, "a", 2), Err(ShelfError::TooLong));
-        assert_eq!(rt; length_of(&mut shelf, alloc, "a", 3), Err(ShelfError::Failed));
+        assert_eq!(rt;
+            length_of(&mut shelf, alloc, "a", 2),
+            Err(ShelfError::TooLong)
+        );
+        assert_eq!(rt;
+            length_of(&mut shelf, alloc, "a", 3),
+            Err(ShelfError::Failed)
+        );
         assert_eq!(rt; length_of(&mut shelf, alloc, "a", 3), Ok(3));
-        assert_eq!(rt; length_of(&mut shelf, alloc, "b", 3), Err(ShelfError::Failed));
+        assert_eq!(rt;
+            length_of(&mut shelf, alloc, "b", 3),
+            Err(ShelfError::Failed)
+        );
         assert_eq!(rt; shelf.get("b"), None);
         Ok(())
     }
@@ -177,7 +186,10 @@ mod tests {
         assert_eq!(rt; shelf.store("new", b"n"), Ok(()));
         assert_eq!(rt; shelf.store("new", b"nn"), Ok(()));
         assert_eq!(rt; length_of(&mut shelf, alloc, "new", 9), Ok(2));
-        assert_eq!(rt; length_of(&mut shelf, alloc, "ne", 9), Err(ShelfError::Failed));
+        assert_eq!(rt;
+            length_of(&mut shelf, alloc, "ne", 9),
+            Err(ShelfError::Failed)
+        );
         assert_eq!(rt; shelf.get("a"), Some(&b"first"[..]));
         Ok(())
     }

@@ -6,11 +6,7 @@ use std::alloc::Global;
 use std::io::{Read, Write};
 
 /// All bytes of a reader. `TooLong` comes only after `limit + 1` bytes were read, and `Failed` where a read failed.
-pub fn read_whole<T: Read>(
-    alloc: Global,
-    reader: &mut T,
-    limit: u32,
-) -> Result<Vec<u8>, ShelfError>
+pub fn read_whole<T: Read>(alloc: Global, reader: &mut T, limit: u32) -> Result<Vec<u8>, ShelfError>
     ensures { IfOk result (λ bytes. length bytes.items ≤ limit) }
 {
     let mut bytes = Vec::new(alloc);

@@ -48,6 +48,7 @@ impl<'a, R: Files> Shelf for FileShelf<'a, R> {
     /// content. Where the name is a link, a device or the like, or `NAME.part` is there or cannot be made, they are
     /// written in place.
     fn store(&mut self, name: &str, bytes: &[u8]) -> Result<(), StoreError> {
+        // A field that the body reads is known to be in the range of its type.
         let _faults = self.faults;
         let mut part = String::from_str(self.alloc, name)?;
         part.push_str(".part")?;
@@ -94,5 +95,43 @@ fn write_in_place<R: Files>(files: &R, name: &str, bytes: &[u8]) -> bool {
     match File::create(files, name) {
         Ok(mut file) => write_whole(&mut file, bytes),
         Err(_) => false,
+    }
+}
+
+#[cfg(test)]
+mod tests {
+    use super::*;
+
+    #[test]
+    fn keeps_real_files(rt: HostRuntime) -> Result<(), StoreError> {
+        let alloc = rt.alloc();
+        let mut shelf = FileShelf::new(alloc, &rt);
+        let name = "kept_by_br_real";
+        assert_eq!(rt; shelf.store(name, b"old"), Ok(()));
+        let long = vec![in alloc; 5u8; 10000].map_err(|_| StoreError::Memory)?;
+        assert_eq!(rt; shelf.store(name, &long), Ok(()));
+        let whole = shelf.fetch(alloc, name, 10000);
+        assert!(rt; whole.is_ok_and(|bytes| bytes == long));
+        assert!(rt; matches!(shelf.fetch(alloc, name, 9999), Err(ShelfError::TooLong)));
+        assert_eq!(rt; shelf.faults, 0);
+
+        // No part of a store is left under another name, and a file that is not there is a fault.
+        assert!(rt;
+            matches!(
+                shelf.fetch(alloc, "kept_by_br_real.part", 9),
+                Err(ShelfError::Failed)
+            )
+        );
+        assert!(rt; matches!(shelf.fetch(alloc, ".", 9), Err(ShelfError::Failed)));
+        assert_eq!(rt; shelf.faults, 2);
+        assert_eq!(rt;
+            shelf.store("not_there/file", b"x"),
+            Err(StoreError::Failed)
+        );
+        assert_eq!(rt; shelf.store("/dev/full", b"x"), Err(StoreError::Failed));
+        assert_eq!(rt; shelf.store(".", b"x"), Err(StoreError::Failed));
+        assert_eq!(rt; shelf.faults, 5);
+        assert!(rt; fs::remove_file(&rt, name).is_ok());
+        Ok(())
     }
 }

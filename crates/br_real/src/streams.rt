@@ -66,7 +66,11 @@ impl<T: Write> Sink for OutputSink<T> {
     fn give(&mut self, piece: &[u8]) -> Result<(), SinkError> {
         let written = write_whole(&mut self.output, piece);
         self.faults = self.faults.saturating_add(u64::from(!written));
-        if written { Ok(()) } else { Err(SinkError::Failed) }
+        if written {
+            Ok(())
+        } else {
+            Err(SinkError::Failed)
+        }
     }
 }
 
@@ -94,5 +98,49 @@ impl<T: Write> Sink for ErrorSink<T> {
 
     fn give(&mut self, piece: &[u8]) -> Result<(), SinkError> {
         self.output.give(piece)
+    }
+}
+
+#[cfg(test)]
+mod tests {
+    use super::*;
+    use std::fs;
+    use std::fs::File;
+
+    #[test]
+    fn streams_of_files(rt: HostRuntime) -> std::io::Result<()> {
+        let name = "streamed_by_br_real";
+        let mut sink = OutputSink::new(File::create(&rt, name)?);
+        assert_eq!(rt; sink.give(b"abc"), Ok(()));
+        assert_eq!(rt; sink.give(b"de"), Ok(()));
+
+        let mut source = InputSource::new(File::open(&rt, name)?);
+        let mut piece = [9u8; 4];
+        assert_eq!(rt; source.take(&mut piece), Ok(4));
+        assert_eq!(rt; piece, *b"abcd");
+        assert_eq!(rt; source.take(&mut piece), Ok(1));
+        assert_eq!(rt; piece, *b"ebcd");
+        assert_eq!(rt; source.take(&mut piece), Ok(0));
+        assert_eq!(rt; source.faults, 0);
+
+        // A file that is open for one way only fails in the other.
+        let mut source = InputSource::new(File::create(&rt, "written_by_br_real")?);
+        assert_eq!(rt; source.take(&mut piece), Err(Failed));
+        assert_eq!(rt; source.faults, 1);
+        let mut sink = ErrorSink::new(File::open(&rt, name)?);
+        assert_eq!(rt; sink.give(b"x"), Err(SinkError::Failed));
+        assert_eq!(rt; sink.output.faults, 1);
+        fs::remove_file(&rt, "written_by_br_real")?;
+        fs::remove_file(&rt, name)
+    }
+
+    #[test]
+    fn standard_streams(rt: HostRuntime) {
+        let mut source = InputSource::new(rt.stdin());
+        let mut sink = OutputSink::new(rt.stdout());
+        let mut report = ErrorSink::new(rt.stderr());
+        assert_eq!(rt; source.take(&mut [0u8; 0]), Ok(0));
+        assert_eq!(rt; sink.give(b""), Ok(()));
+        assert_eq!(rt; report.give(b""), Ok(()));
     }
 }

@@ -1,8 +1,8 @@
-use Rattle.std.proofs.Common.{◌≡◌, ℕ, zero, suc, ◌+◌, ◌-◌, ◌*◌, ◌/◌, ◌%◌, ◌^◌, ◌<◌, ◌≤◌, Bool, true, false, cond, not, ◌&&◌, ◌||◌, sym, ap, subst, ◌∙◌, refl, arith, rules, min, ⊎_elim}
-use Rattle.std.specs.Prelude.{nat_lt, nat_le, bit_and, bit_or, bit_xor}
+use Rattle.std.proofs.Common.{◌≡◌, ℕ, zero, suc, ◌+◌, ◌-◌, ◌*◌, ◌/◌, ◌%◌, ◌^◌, ◌<◌, ◌≤◌, ◌||◌, sym, ap, ◌∙◌, arith}
+use Rattle.std.specs.Prelude.{nat_lt, nat_le, bit_and, bit_xor}
 use Rattle.std.proofs.lemmas.Bool.Decides.{nat_tests}
-use Rattle.std.proofs.Math.Nat.{mod-mod_of_dvd, add-mul-mod_self_right, mod-mod, mul_assoc, suc-mul}
-use Rattle.std.proofs.lemmas.Nat.{div-add-mod', pow-add, and_mask}
+use Rattle.std.proofs.Math.Nat.{add-mul-mod_self_right, mul_assoc, suc-mul}
+use Rattle.std.proofs.lemmas.Nat.{div-add-mod'}
 use Rattle.std.proofs.lemmas.Nat.Bits.{bit_at_xor, shr_and_one}
 use Rattle.br_word.specs.Words.{bit}
 use Rattle.br_word.proofs.Sums.{wrap_cases}

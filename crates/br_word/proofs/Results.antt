@@ -1,7 +1,6 @@
 -- The words of code, at each width.
-use Rattle.std.proofs.Common.{◌≡◌, ℕ, zero, suc, ◌+◌, ◌-◌, ◌*◌, ◌/◌, ◌%◌, ◌^◌, ◌<◌, ◌≤◌, Bool, true, false, cond, not, ◌&&◌, ◌||◌, sym, ap, subst, ◌∙◌, refl, arith, rules, min, ⊎_elim}
-use Rattle.std.specs.Prelude.{ℤ, pos, negsuc, ◌+ℤ◌, ◌-ℤ◌, ◌*ℤ◌, nat_lt, nat_le, nat_eq, bit_and, bit_or, bit_xor}
-use Rattle.std.proofs.lemmas.Nat.{and_mask}
+use Rattle.std.proofs.Common.{◌≡◌, ℕ, ◌+◌, ◌-◌, ◌/◌, ◌%◌, ◌^◌, ◌<◌, ◌≤◌, Bool, true, false, ap, ◌∙◌, refl, arith}
+use Rattle.std.specs.Prelude.{pos, ◌+ℤ◌, ◌-ℤ◌, nat_le, nat_eq, bit_and, bit_xor}
 use Rattle.br_word.specs.declared.types.Width.{Width}
 use Rattle.br_word.specs.declared.types.Width.TheVariants.{B8, B16, B32}
 use Rattle.br_word.specs.Words.{bits_of}

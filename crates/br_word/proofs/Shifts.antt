@@ -1,14 +1,8 @@
-use Rattle.std.proofs.Common.{◌≡◌, ℕ, zero, suc, ◌+◌, ◌-◌, ◌*◌, ◌/◌, ◌%◌, ◌^◌, ◌<◌, ◌≤◌, Bool, true, false, cond, not, ◌&&◌, ◌||◌, sym, ap, subst, ◌∙◌, refl, arith, rules, min, ⊎_elim}
-use Rattle.std.specs.Prelude.{ℤ, pos, negsuc, ◌+ℤ◌, ◌-ℤ◌, ◌*ℤ◌, nat_lt, nat_le, bit_and, bit_or, bit_xor}
-use Rattle.std.specs.Int.Signed.{shr_z}
-use Rattle.std.proofs.lemmas.Int.{ints}
-use Rattle.std.proofs.lemmas.Bool.Decides.{nat_tests}
-use Rattle.std.proofs.lemmas.Bool.{cases_lt}
-use Rattle.std.proofs.Math.Nat.{mul_assoc, mul_comm, mod-eq_of_lt, div-eq_of_lt}
-use Rattle.std.proofs.lemmas.Nat.{div-add-mod', pow-add, and_mask, shl-shr, shr-shr, mod-mul-add, pow_pos, mod_below, mul-lt}
+use Rattle.std.proofs.Common.{◌≡◌, ℕ, ◌+◌, ◌-◌, ◌*◌, ◌/◌, ◌%◌, ◌^◌, ◌<◌, sym, ap, ◌∙◌, arith}
+use Rattle.std.specs.Prelude.{ℤ, pos, negsuc}
+use Rattle.std.proofs.lemmas.Nat.{div-add-mod', pow-add, shl-shr, shr-shr, mod_below, mul-lt}
 use Rattle.br_word.proofs.Sums.{wrap_cases}
 use Rattle.std.proofs.Math.Nat.{add-mul-mod_self_right, mul-mod_left, add-mul}
-use Rattle.br_word.specs.Words.{bit, signed, out_of_range}
 use Rattle.br_word.proofs.Differences.{mod-mod_mul}
 
 -- the powers of 2 that divide 2 ^ 32

@@ -1,5 +1,5 @@
--- What the operations give: a result modulo 2 ^ w, and flags by sums and ranges.
-use Rattle.std.specs.Prelude.{ℕ, zero, suc, ◌+◌, ◌-◌, ◌*◌, ◌/◌, ◌%◌, ◌^◌, Bool, true, false, cond, not, nat_lt, nat_le, ◌==◌, ℤ, pos, ◌+ℤ◌, ◌-ℤ◌}
+-- What the operations give: a result modulo 2 ^ w, and flags by sums and ranges (SDM volume 1, 3.4.3.1; volume 2, SAL/SAR/SHL/SHR).
+use Rattle.std.specs.Prelude.{ℕ, ◌+◌, ◌-◌, ◌*◌, ◌/◌, ◌%◌, ◌^◌, Bool, true, false, cond, not, nat_lt, nat_le, ◌==◌, pos, ◌+ℤ◌, ◌-ℤ◌}
 use Rattle.br_word.specs.declared.types.Width.{Width}
 use Rattle.br_word.specs.declared.types.Flags.{Flags}
 use Rattle.br_word.specs.declared.flags.Sum.{Sum}

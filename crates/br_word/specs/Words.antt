@@ -1,5 +1,5 @@
--- Numbers of w bits, and the flags of the operations on them, by sums and ranges of whole numbers.
-use Rattle.std.specs.Prelude.{◌≡◌, ℕ, suc, ◌+◌, ◌-◌, ◌*◌, ◌/◌, ◌%◌, ◌^◌, Bool, true, false, cond, not, ◌&&◌, ◌||◌, nat_lt, nat_le, ◌==◌, ℤ, pos, ◌+ℤ◌, ◌-ℤ◌, ◌*ℤ◌, int_lt}
+-- Numbers of w bits: signs, parity and ranges, by sums and ranges of whole numbers (SDM volume 1, 4.2.1 and 3.4.3.1).
+use Rattle.std.specs.Prelude.{ℕ, ◌-◌, ◌%◌, ◌^◌, Bool, cond, not, ◌||◌, nat_lt, nat_le, ◌==◌, ℤ, pos, ◌-ℤ◌, int_lt}
 use Rattle.std.specs.Prelude.{negsuc}
 use Rattle.std.specs.Int.{from_bool}
 use Rattle.std.specs.Int.Signed.{shr_z}

@@ -1,4 +1,5 @@
-//! The flags of sums, differences, logic and shifts.
+//! Results and flags of sums, differences, logic and shifts (SDM volume 1, 3.4.3.1; volume 2, ADD, SUB, AND,
+//! SAL/SAR/SHL/SHR). No call takes memory.
 
 ghost use Rattle.std.specs.Prelude.{◌≡◌, ◌+◌, ◌-◌, ◌*◌, ◌/◌, ◌%◌, ◌^◌, ◌<◌, ◌≤◌, ℕ, Bool};
 ghost use Rattle.br_word.specs.Words.{bits_of};
@@ -7,12 +8,14 @@ ghost use Rattle.br_word.specs.Words.{signed, wrap, floor_div};
 
 use crate::types::{Flags, ShiftOp, Width};
 
+/// A sum or a difference modulo 2 to the width, and its flags.
 #[derive(Clone, Copy, Debug, PartialEq, Eq)]
 pub struct Sum {
     pub value: u32,
     pub flags: Flags,
 }
 
+/// A shifted value, its flags, and whether CF and OF are defined.
 #[derive(Clone, Copy, Debug, PartialEq, Eq)]
 pub struct Shifted {
     pub value: u32,
@@ -21,8 +24,8 @@ pub struct Shifted {
     pub of_known: bool,
 }
 
-// The number of bits.
-pub fn bits(w: Width) -> u32
+/// The number of bits of a width.
+fn bits(w: Width) -> u32
     ensures { result ≡ bits_of w }
 {
     match w {
@@ -32,7 +35,7 @@ pub fn bits(w: Width) -> u32
     }
 }
 
-// All ones.
+/// The greatest number of a width.
 fn mask(w: Width) -> u32
     ensures { result ≡ 2 ^ bits_of w - 1 }
 {
@@ -43,6 +46,7 @@ fn mask(w: Width) -> u32
     }
 }
 
+/// The flags of a bitwise operation with this result, a number of the width: CF and OF are 0.
 pub fn logic_flags(w: Width, value: u32) -> Flags
     requires { value < 2 ^ bits_of w }
     ensures { result ≡ logic_result w value }
@@ -56,6 +60,7 @@ pub fn logic_flags(w: Width, value: u32) -> Flags
     }
 }
 
+/// `a + b`, and 1 for a carry, of two numbers of the width: CF where the sum passes the width, OF where the signed sum does.
 pub fn add_flags(w: Width, a: u32, b: u32, carry: bool) -> Sum
     requires a_fits { a < 2 ^ bits_of w }
     requires b_fits { b < 2 ^ bits_of w }
@@ -77,6 +82,8 @@ pub fn add_flags(w: Width, a: u32, b: u32, carry: bool) -> Sum
     }
 }
 
+/// `a - b`, and 1 less for a borrow, of two numbers of the width: CF where `a` is below `b` and the borrow, OF where the signed
+/// difference passes the width.
 pub fn sub_flags(w: Width, a: u32, b: u32, borrow: bool) -> Sum
     requires a_fits { a < 2 ^ bits_of w }
     requires b_fits { b < 2 ^ bits_of w }
@@ -97,7 +104,7 @@ pub fn sub_flags(w: Width, a: u32, b: u32, borrow: bool) -> Sum
     }
 }
 
-// The signed value, shifted right.
+/// The signed value, shifted right and rounded down.
 fn sar(w: Width, a: u32, count: u32) -> u32
     requires a_fits { a < 2 ^ bits_of w }
     requires count_fits { count < 32 }
@@ -111,7 +118,6 @@ fn sar(w: Width, a: u32, count: u32) -> u32
     }
 }
 
-// The shifted value.
 fn shift_word(op: ShiftOp, w: Width, a: u32, count: u32) -> u32
     requires a_fits { a < 2 ^ bits_of w }
     requires count_fits { count < 32 }
@@ -124,7 +130,7 @@ fn shift_word(op: ShiftOp, w: Width, a: u32, count: u32) -> u32
     }
 }
 
-// The last bit that is shifted out.
+/// The last bit that is shifted out.
 fn last_out(op: ShiftOp, w: Width, a: u32, count: u32) -> bool
     requires a_fits { a < 2 ^ bits_of w }
     requires at_least { 1 ≤ count }
@@ -138,6 +144,8 @@ fn last_out(op: ShiftOp, w: Width, a: u32, count: u32) -> bool
     }
 }
 
+/// A number of the width shifted by 1 to 31. CF is the last bit shifted out, undefined for SHL and SHR from the width on; OF is
+/// defined for a count of 1 alone.
 pub fn shift_result(op: ShiftOp, w: Width, a: u32, count: u32) -> Shifted
     requires a_fits { a < 2 ^ bits_of w }
     requires at_least { 1 ≤ count }
@@ -164,5 +172,33 @@ pub fn shift_result(op: ShiftOp, w: Width, a: u32, count: u32) -> Shifted
         },
         cf_known,
         of_known: count == 1,
+    }
+}
+
+#[cfg(test)]
+mod tests {
+    use super::*;
+
+    /// Values of the manual's pages, worked by hand.
+    #[test]
+    fn stated_values(rt: HostRuntime) {
+        let sum = add_flags(Width::B8, 0x7F, 1, false);
+        assert_eq!(rt; sum.value, 0x80);
+        assert!(rt;
+            sum.flags.of && sum.flags.sf && !sum.flags.cf && !sum.flags.zf && !sum.flags.pf
+        );
+        let difference = sub_flags(Width::B32, 0, 0, true);
+        assert_eq!(rt; difference.value, 0xFFFF_FFFF);
+        assert!(rt;
+            difference.flags.cf
+                && difference.flags.sf
+                && !difference.flags.of
+                && difference.flags.pf
+        );
+        assert!(rt; logic_flags(Width::B16, 0).zf);
+        let shifted = shift_result(ShiftOp::Sar, Width::B8, 0x80, 31);
+        assert_eq!(rt; shifted.value, 0xFF);
+        assert!(rt; shifted.flags.cf && shifted.cf_known && !shifted.of_known);
+        assert!(rt; !shift_result(ShiftOp::Shl, Width::B8, 1, 8).cf_known);
     }
 }

@@ -7,7 +7,8 @@ use Rattle.elf_read.specs.declared.exe.Segment.{Segment}
 use Rattle.elf_read.specs.declared.exe.Exe.{Exe}
 use Rattle.elf_read.specs.declared.exe.Reach.{Reach}
 use Rattle.elf_read.specs.declared.exe.Reach.TheVariants.{Original, Guest}
-use Rattle.elf_read.specs.Elf.{lowest, most_segments, most_memory, AreSegments, Ascend, is_exec, in_segment, sizes, IsExe, IsOriginal, IsGuest, Header, field, table_of, perms_of, is_loaded, loaded, first_where, is_outside, writes_code, first_below, holds_entry, has_more_bytes, first_past, refusals, Refused, first_refused, segment_of, end_of_last, exe_of, unless_refused, elf}
+use Rattle.elf_read.specs.declared.header.Header.{Header}
+use Rattle.elf_read.specs.Elf.{lowest, most_segments, most_memory, AreSegments, Ascend, is_exec, in_segment, sizes, IsExe, IsOriginal, IsGuest, field, table_of, perms_of, is_loaded, loaded, first_where, is_outside, writes_code, first_below, holds_entry, has_more_bytes, first_past, refusals, Refused, first_refused, segment_of, end_of_last, exe_of, unless_refused, elf}
 use Rattle.elf_read.proofs.Refusals.{or_none, or_inv, and_inv, not_inv, either, AllNone, none_all, all_none, place_inv, where_inv, where_filter}
 
 abbrev AllLoaded : List Header → Type 0

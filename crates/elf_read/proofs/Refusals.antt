@@ -2,7 +2,8 @@
 use Rattle.std.proofs.Common.{◌≡◌, ℕ, ◌+◌, Bool, true, false, not, ◌&&◌, ◌||◌, List, [], ◌∷◌, Option, Some, None, ◌⊎◌, inl, inr, refl, sym, ap, ◌∙◌}
 use Rattle.std.specs.Prelude.{filter, if◌then◌else◌}
 use Rattle.std.proofs.lemmas.Option.{none-some}
-use Rattle.elf_read.specs.Elf.{Header, first_where, place_if, first_refused}
+use Rattle.elf_read.specs.declared.header.Header.{Header}
+use Rattle.elf_read.specs.Elf.{first_where, place_if, first_refused}
 
 pub or_none : (a b : Bool) → a ≡ false → b ≡ false → (a || b) ≡ false
 or_none a b e f = ap (λ a. a || b) e ∙ f

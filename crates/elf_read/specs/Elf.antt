@@ -1,6 +1,7 @@
 -- ELF files: which are accepted, and what an accepted file says (System V ABI, chapters 4 and 5: ELF header, program header).
 use Rattle.std.specs.Prelude.{◌≡◌, ℕ, zero, suc, ◌+◌, ◌-◌, ◌*◌, ◌/◌, ◌%◌, ◌≤◌, ◌<◌, Bool, true, false, not, ◌&&◌, ◌||◌, nat_eq, nat_lt, nat_le, if◌then◌else◌, List, [], ◌∷◌, length, take, drop, map, filter, get_or, Option, Some, None, Result, Ok, Err}
 use Rattle.br_word.specs.declared.types.Perms.{Perms}
+use Rattle.elf_read.specs.declared.header.Header.{Header}
 use Rattle.elf_read.specs.declared.exe.Segment.{Segment}
 use Rattle.elf_read.specs.declared.exe.Exe.{Exe}
 use Rattle.elf_read.specs.declared.exe.Reach.{Reach}
@@ -22,15 +23,6 @@ most_memory Guest = 268435456
 -- the number of so many bytes at an offset
 abbrev pub field : ℕ → ℕ → List ℕ → ℕ
 field n at bytes = number_of (take n (drop at bytes))
-
-pub record Header : Type 0 where
-  pub place : ℕ
-  pub kind : ℕ
-  pub offset : ℕ
-  pub vaddr : ℕ
-  pub filesz : ℕ
-  pub memsz : ℕ
-  pub flags : ℕ
 
 -- the program header with which the bytes begin
 abbrev pub header_at : ℕ → List ℕ → Header
@@ -95,16 +87,28 @@ abbrev pub first_past : ℕ → ℕ → List Header → Option ℕ
 first_past count room [] = None
 first_past count room (h ∷ hs) = if nat_eq count 0 || nat_lt room h.memsz then Some h.place else first_past (count - 1) (room - h.memsz) hs
 
--- the refusals in the order of their numbers, from 1
-abbrev pub refusals : Reach → List ℕ → List (Option ℕ)
-refusals reach bytes =
-    place_if (nat_lt (length bytes) 52) (length bytes) None
-    ∷ place_if (not (nat_eq (get_or bytes 0 0) 0x7F)) 0 (place_if (not (nat_eq (get_or bytes 1 0) 0x45)) 1 (place_if (not (nat_eq (get_or bytes 2 0) 0x4C)) 2 (place_if (not (nat_eq (get_or bytes 3 0) 0x46)) 3 None)))
-    ∷ place_if (not (nat_eq (get_or bytes 4 0) 1)) 4 (place_if (not (nat_eq (get_or bytes 5 0) 1)) 5 (place_if (not (nat_eq (get_or bytes 6 0) 1)) 6 (place_if (not (nat_eq (field 4 20 bytes) 1)) 20 None)))
-    ∷ place_if (not (nat_eq (field 2 16 bytes) 2)) 16 None
-    ∷ place_if (not (nat_eq (field 2 18 bytes) 3)) 18 None
-    ∷ place_if (not (nat_eq (field 2 40 bytes) 52)) 40 (place_if (not (nat_eq (field 2 42 bytes) 32)) 42 (place_if (nat_lt (length bytes) (field 4 28 bytes + 32 * field 2 44 bytes)) 28 None))
-    ∷ first_where is_other_kind (table_of bytes)
+abbrev pub wrong_byte : ℕ → ℕ → List ℕ → Option ℕ → Option ℕ
+wrong_byte at value bytes other = place_if (not (nat_eq (get_or bytes at 0) value)) at other
+
+abbrev pub wrong_field : ℕ → ℕ → ℕ → List ℕ → Option ℕ → Option ℕ
+wrong_field n at value bytes other = place_if (not (nat_eq (field n at bytes) value)) at other
+
+abbrev pub short_file : List ℕ → Option ℕ
+short_file bytes = place_if (nat_lt (length bytes) 52) (length bytes) None
+
+abbrev pub wrong_magic : List ℕ → Option ℕ
+wrong_magic bytes = wrong_byte 0 0x7F bytes (wrong_byte 1 0x45 bytes (wrong_byte 2 0x4C bytes (wrong_byte 3 0x46 bytes None)))
+
+abbrev pub wrong_version : List ℕ → Option ℕ
+wrong_version bytes = wrong_byte 4 1 bytes (wrong_byte 5 1 bytes (wrong_byte 6 1 bytes (wrong_field 4 20 1 bytes None)))
+
+abbrev pub wrong_table : List ℕ → Option ℕ
+wrong_table bytes = wrong_field 2 40 52 bytes (wrong_field 2 42 32 bytes (place_if (nat_lt (length bytes) (field 4 28 bytes + 32 * field 2 44 bytes)) 28 None))
+
+-- the refusals for the program headers, in the order of their numbers, from 7
+abbrev pub table_refusals : Reach → List ℕ → List (Option ℕ)
+table_refusals reach bytes =
+    first_where is_other_kind (table_of bytes)
     ∷ first_where writes_code (loaded bytes)
     ∷ first_where (is_outside reach (length bytes)) (loaded bytes)
     ∷ first_below 0 (loaded bytes)
@@ -112,6 +116,17 @@ refusals reach bytes =
     ∷ first_where has_more_bytes (table_of bytes)
     ∷ first_past (most_segments reach) (most_memory reach) (loaded bytes)
     ∷ []
+
+-- the refusals in the order of their numbers, from 1
+abbrev pub refusals : Reach → List ℕ → List (Option ℕ)
+refusals reach bytes =
+    short_file bytes
+    ∷ wrong_magic bytes
+    ∷ wrong_version bytes
+    ∷ wrong_field 2 16 2 bytes None
+    ∷ wrong_field 2 18 3 bytes None
+    ∷ wrong_table bytes
+    ∷ table_refusals reach bytes
 
 pub record Refused : Type 0 where
   pub number : ℕ

@@ -1,9 +1,8 @@
-// What a file says.
+//! What a file says.
 use br_word::Perms;
-use std::alloc::{AllocError, Global};
 use std::marker::Model;
 
-/// The bytes of a segment.
+/// The bytes of a segment, as a list.
 #[derive(Drop)]
 pub struct Bytes {
     items: Vec<u8>,
@@ -18,22 +17,13 @@ impl Model for Bytes {
 }
 
 impl Bytes {
-    ghost use Rattle.std.specs.Prelude.{◌≡◌, length, IfOk};
+    ghost use Rattle.std.specs.Prelude.{◌≡◌, length};
 
-    pub fn from_slice(alloc: Global, bytes: &[u8]) -> Result<Bytes, AllocError>
-        ensures { IfOk result (λ b. b ≡ bytes.now) }
+    /// These bytes. It takes no memory.
+    pub fn of(items: Vec<u8>) -> Self
+        ensures { result ≡ items.items }
     {
-        Ok(Bytes {
-            items: bytes.to_vec(alloc)?,
-        })
-    }
-
-    pub fn copy(&self, alloc: Global) -> Result<Bytes, AllocError>
-        ensures { IfOk result (λ b. b ≡ self.now) }
-    {
-        Ok(Bytes {
-            items: self.items.as_slice().to_vec(alloc)?,
-        })
+        Bytes { items }
     }
 
     pub fn as_slice(&self) -> &[u8]
@@ -48,22 +38,27 @@ impl Bytes {
         self.items.len()
     }
 
-    pub fn of(items: Vec<u8>) -> Self
-        ensures { result ≡ items.items }
+    /// The bytes as a vector. It takes no memory.
+    pub fn into_vec(self) -> Vec<u8>
+        ensures { result.items ≡ self }
     {
-        Bytes { items }
+        self.items
     }
 }
 
+/// A loaded segment (ELF, program header of type PT_LOAD).
 #[derive(Drop)]
 pub struct Segment {
+    /// Its lowest address.
     pub start: u32,
+    /// How many bytes it has in memory.
     pub size: u32,
     pub perms: Perms,
+    /// The bytes of the file, at most `size`: those after them are zero in memory.
     pub bytes: Bytes,
 }
 
-/// The segments of a file.
+/// The segments of a file, as a list, in the order of their headers.
 #[derive(Drop)]
 pub struct Segments {
     items: Vec<Segment>,
@@ -78,30 +73,14 @@ impl Model for Segments {
     ghost view = { λ s. s.items.items };
 }
 
-impl Segment {
-    ghost use Rattle.std.specs.Prelude.{◌≡◌, IfOk};
-
-    pub fn copy(&self, alloc: Global) -> Result<Segment, AllocError>
-        ensures { IfOk result (λ s. s ≡ self.now) }
-    {
-        Ok(Segment {
-            start: self.start,
-            size: self.size,
-            perms: self.perms,
-            bytes: self.bytes.copy(alloc)?,
-        })
-    }
-}
-
 impl Segments {
-    ghost use Rattle.std.specs.Prelude.{◌≡◌, IfOk, [], ◌∷◌};
+    ghost use Rattle.std.specs.Prelude.{◌≡◌, length};
 
-    pub fn one(alloc: Global, segment: Segment) -> Result<Segments, AllocError>
-        ensures { IfOk result (λ s. s ≡ segment ∷ []) }
+    /// These segments. It takes no memory.
+    pub fn of(items: Vec<Segment>) -> Self
+        ensures { result ≡ items.items }
     {
-        let mut items = Vec::new(alloc);
-        items.push(segment)?;
-        Ok(Segments { items })
+        Segments { items }
     }
 
     pub fn as_slice(&self) -> &[Segment]
@@ -110,22 +89,35 @@ impl Segments {
         self.items.as_slice()
     }
 
-    pub fn of(items: Vec<Segment>) -> Self
-        ensures { result ≡ items.items }
+    pub fn len(&self) -> usize
+        ensures { result ≡ length self.now }
     {
-        Segments { items }
+        self.items.len()
+    }
+
+    /// The segments as a vector. It takes no memory.
+    pub fn into_vec(self) -> Vec<Segment>
+        ensures { result.items ≡ self }
+    {
+        self.items
     }
 }
 
+/// An executable.
 #[derive(Drop)]
 pub struct Exe {
+    /// Where it begins to run.
     pub entry: u32,
     pub segments: Segments,
+    /// The end of the last segment, rounded up to a multiple of 4096: where the heap begins.
     pub brk_start: u32,
 }
 
+/// Which executables are accepted.
 #[derive(Clone, Copy, Debug, PartialEq, Eq, Drop)]
 pub enum Reach {
+    /// One that is to be recompiled: from 0x08000000 up, at most 64 segments and 67108864 bytes in memory.
     Original,
+    /// One that is only run: from 0x01000000 up, at most 66 segments and 268435456 bytes in memory.
     Guest,
 }

@@ -5,17 +5,13 @@ use Rattle.br_word.specs.Memory.{bytes_of}
 use Rattle.elf_read.specs.declared.exe.Segment.{Segment}
 use Rattle.elf_read.specs.Elf.{IsSegment, AreSegments, sizes}
 use Rattle.elf_write.specs.File.{end_after, end_of_all, piece_of, program_header, program_headers, pieces, file_header, head_length, file_of, IsWritable}
+use Rattle.elf_read.proofs.Parts.{next_is}
 use Rattle.elf_write.proofs.ReadBack.{end_bound, headers_apart, file_head_apart}
 
 -- what is left to be written at a place, below a limit
 pub record IsLeft (limit at : ℕ) (left : List Segment) : Type 0 where
   pub each : AreSegments 0x01000000 left
   pub room : at + 4096 * length left + sizes left ≤ limit
-
-pub next_is : (i : ℕ) (ss : List Segment) (s : Segment) → i < length ss → s ≡ get_or ss i s → drop i ss ≡ s ∷ drop (i + 1) ss
-next_is i ss s h e =
-    let n : suc i ≡ i + 1 = omega arith in
-    drop-cons ss i s h ∙ ap (λ x. x ∷ drop (suc i) ss) (sym e) ∙ ap (λ n. s ∷ drop n ss) n
 
 pub left_at : (limit at : ℕ) (s : Segment) (rest : List Segment) → limit ≤ 2 ^ 31 → IsLeft limit at (s ∷ rest) → (at + s.size ≤ 2 ^ 31) × IsSegment 0x01000000 s × IsLeft limit (end_after at s) rest
 left_at limit at s rest small l =

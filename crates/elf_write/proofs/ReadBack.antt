@@ -7,9 +7,11 @@ use Rattle.br_word.specs.declared.types.Perms.{Perms}
 use Rattle.br_word.specs.Memory.{number_of, bytes_of, zeros}
 use Rattle.elf_read.specs.declared.exe.Segment.{Segment}
 use Rattle.elf_read.specs.declared.exe.Reach.TheVariants.{Guest}
-use Rattle.elf_read.specs.Elf.{AreSegments, Ascend, is_exec, sizes, Header, field, header_at, headers, table_of, perms_of, is_loaded, loaded, first_where, place_if, is_other_kind, writes_code, is_outside, first_below, holds_entry, has_more_bytes, first_past, refusals, first_refused, segment_of, exe_of, unless_refused, elf}
+use Rattle.elf_read.specs.declared.header.Header.{Header}
+use Rattle.elf_read.specs.Elf.{AreSegments, Ascend, is_exec, sizes, field, header_at, headers, table_of, perms_of, is_loaded, loaded, first_where, place_if, is_other_kind, writes_code, is_outside, first_below, holds_entry, has_more_bytes, first_past, refusals, first_refused, segment_of, exe_of, unless_refused, elf}
 use Rattle.elf_write.specs.File.{flags_of_perms, has_none, padding, offset_of, end_after, piece_of, program_header, program_headers, pieces, file_header, head_length, file_of, IsWritable}
 use Rattle.elf_read.proofs.Refusals.{or_none, pass}
+use Rattle.elf_read.proofs.Walk.{make, same_make}
 use Rattle.elf_read.proofs.Numbers.{number_again, length_zeros}
 
 abbrev head_of : ℕ → ℕ → Segment → Header
@@ -26,12 +28,6 @@ head_of at place s = record {
 abbrev heads : ℕ → ℕ → List Segment → List Header
 heads at place [] = []
 heads at place (s ∷ ss) = head_of at place s ∷ heads (end_after at s) (place + 32) ss
-
-unfoldable pub make : ℕ → ℕ → ℕ → ℕ → ℕ → ℕ → ℕ → Header
-make place kind offset vaddr filesz memsz flags = record { place = place; kind = kind; offset = offset; vaddr = vaddr; filesz = filesz; memsz = memsz; flags = flags }
-
-pub same_make : (place kind o o' v v' f f' m m' g g' : ℕ) → o ≡ o' → v ≡ v' → f ≡ f' → m ≡ m' → g ≡ g' → make place kind o v f m g ≡ make place kind o' v' f' m' g'
-same_make place kind o o' v v' f f' m m' g g' a b c d e = cc
 
 head_read : (at place : ℕ) (s : Segment) (rest : List ℕ) → header_at place (program_header at s rest) ≡ make place 1 (number_of (bytes_of 4 (offset_of at s))) (number_of (bytes_of 4 s.start)) (number_of (bytes_of 4 (length s.bytes))) (number_of (bytes_of 4 s.size)) (number_of (bytes_of 4 (flags_of_perms s.perms)))
 unfolding make bytes_of number_of

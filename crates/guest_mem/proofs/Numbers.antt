@@ -2,11 +2,11 @@
 use Rattle.std.proofs.Common.{◌≡◌, ℕ, zero, suc, ◌+◌, ◌-◌, ◌*◌, ◌<◌, ◌≤◌, List, [], ◌∷◌, ◌++◌, length, take, drop, get_or, refl, sym, ◌∙◌, ap, arith, length-append, length-take, length-drop}
 use Rattle.std.specs.Prelude.{replicate, min}
 use Rattle.std.specs.Int.{bytes_low_first}
-use Rattle.std.proofs.lemmas.List.{drop_more, take_all, length-replicate, take-replicate, take_min, length-take-le}
+use Rattle.std.proofs.lemmas.List.{drop_more, take_all, length-replicate, take-replicate, take_min}
 use Rattle.br_word.specs.declared.types.Width.{Width}
 use Rattle.br_word.specs.declared.types.Width.TheVariants.{B8, B16, B32}
 use Rattle.br_word.specs.Words.{size_of}
-use Rattle.br_word.specs.Memory.{number_of, bytes_of, zeros}
+use Rattle.br_word.specs.Memory.{put_over, number_of, bytes_of, zeros}
 
 -- the byte that is read at an index is the first of those from there on
 drop_read : (bs : List ℕ) (k j x : ℕ) → k < length bs → k + 1 ≡ j → x ≡ get_or bs k x → drop k bs ≡ x ∷ drop j bs
@@ -75,3 +75,8 @@ take-fetched bs into k l n e h t =
 
 pub length-cut : (size : ℕ) (bs : List ℕ) → length (take size (bs ++ zeros size)) ≡ size
 length-cut size bs = omega (arith, length-take size (bs ++ zeros size), length-append bs (zeros size), length-zeros size)
+
+-- bytes that are put over others leave their number
+pub length-put_over : (old new : List ℕ) (k : ℕ) → k + length new ≤ length old → length (put_over old k new) ≡ length old
+length-put_over old new k h =
+    omega (arith, length-append (take k old) (new ++ drop (k + length new) old), length-append new (drop (k + length new) old), length-take k old, length-drop (k + length new) old)

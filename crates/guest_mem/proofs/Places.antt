@@ -1,11 +1,11 @@
 -- The region to which an access goes, by its place in the list.
-use Rattle.std.proofs.Common.{◌≡◌, ℕ, zero, suc, ◌+◌, ◌-◌, ◌<◌, ◌≤◌, Bool, true, false, cond, ◌&&◌, List, [], ◌∷◌, ◌++◌, length, take, drop, get_or, set, Option, Some, None, refl, sym, ◌∙◌, ap, arith, length-append, length-take, length-drop}
+use Rattle.std.proofs.Common.{◌≡◌, ℕ, zero, suc, ◌+◌, ◌-◌, ◌<◌, ◌≤◌, Bool, true, false, cond, ◌&&◌, List, [], ◌∷◌, length, drop, get_or, set, Option, Some, None, refl, sym, ◌∙◌, ap, arith}
 use Rattle.std.specs.Prelude.{option_map, is_some, if◌then◌else◌}
 use Rattle.std.specs.List.{position, position_from}
 use Rattle.std.proofs.lemmas.Iterator.Adapters.{position_from-zero}
 use Rattle.std.proofs.lemmas.List.Quantifiers.{position-Some}
 use Rattle.std.proofs.lemmas.Bool.Decides.{nat_tests}
-use Rattle.br_word.specs.Memory.{Region, Use, Reads, Writes, Runs, allows, covers, bytes_at, put_over, written}
+use Rattle.br_word.specs.Memory.{Region, Use, Writes, allows, covers, bytes_at, put_over, written}
 use Rattle.guest_mem.specs.Layout.{is_usable}
 
 pub and_left : (a b : Bool) → (a && b) ≡ true → a ≡ true

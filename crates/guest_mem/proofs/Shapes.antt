@@ -1,17 +1,17 @@
 -- The order, the starts and the permissions of a guest's regions stay, and so does its code.
-use Rattle.std.proofs.Common.{◌≡◌, ◌≢◌, ℕ, zero, suc, ◌+◌, ◌-◌, ◌<◌, ◌≤◌, Bool, true, false, ◌&&◌, List, [], ◌∷◌, ◌++◌, length, take, drop, Option, Some, None, refl, sym, ◌∙◌, ap, subst, arith, length-append, length-take, length-drop}
+use Rattle.std.proofs.Common.{◌≡◌, ◌≢◌, ℕ, ◌+◌, ◌-◌, ◌<◌, ◌≤◌, Bool, true, false, ◌&&◌, List, [], ◌∷◌, ◌++◌, length, take, drop, Option, Some, None, refl, sym, ◌∙◌, ap, arith, length-append}
 use Rattle.std.specs.Prelude.{map, option_map, nat_eq, if◌then◌else◌}
 use Rattle.std.proofs.lemmas.List.{map-append}
 use Rattle.std.proofs.lemmas.Bool.Decides.{nat_tests}
-use Rattle.br_word.specs.Memory.{Region, Use, Reads, Writes, Runs, allows, covers, bytes_at, put_over, written, resized, zeros}
+use Rattle.br_word.specs.Memory.{Region, Writes, Runs, covers, bytes_at, put_over, written, resized, zeros}
 use Rattle.elf_read.specs.declared.exe.Segment.{Segment}
 use Rattle.elf_read.specs.declared.exe.Exe.{Exe}
-use Rattle.elf_read.specs.Elf.{IsSegment, AreSegments, Ascend, end_of_last, round_up, IsGuest}
+use Rattle.elf_read.specs.Elf.{AreSegments, Ascend, end_of_last, round_up, IsGuest}
 use Rattle.guest_mem.specs.Regions.{region_of, stack_with, stack_region, heap_region, opening_regions}
 use Rattle.guest_mem.specs.Layout.{is_usable, Shape, shape_of, data_at, segment_shape, shapes_of, KeepsCode}
 use Rattle.guest_mem.proofs.Places.{and_left, and_right, covers-bounds}
-use Rattle.guest_mem.proofs.Numbers.{length-zeros, length-cut}
-use Rattle.guest_mem.proofs.Heaps.{below_end, end_high, not_equal, equal}
+use Rattle.guest_mem.proofs.Numbers.{length-zeros, length-cut, length-put_over}
+use Rattle.guest_mem.proofs.Heaps.{end_of_tail, below_end, end_high, not_equal, equal}
 
 -- ---- the opening
 
@@ -35,10 +35,6 @@ shapes-opening exe top g h =
     ∙ ap (λ n. map segment_shape exe.segments ++ (data_at 0xBFF00000 1048576 ∷ data_at exe.brk_start n ∷ [])) (sym none)))
 
 -- ---- a write
-
-length-put_over : (old new : List ℕ) (k : ℕ) → k + length new ≤ length old → length (put_over old k new) ≡ length old
-length-put_over old new k h =
-    omega (arith, length-append (take k old) (new ++ drop (k + length new) old), length-append new (drop (k + length new) old), length-take k old, length-drop (k + length new) old)
 
 pub shapes-written : (at : ℕ) (new : List ℕ) (rs ss : List Region) → written at new rs ≡ Some ss → map shape_of ss ≡ map shape_of rs
 unfolding written
@@ -129,11 +125,7 @@ all-reshaped low end start size old [] a o h l =
 all-reshaped low end start size old (s ∷ ss) a o h l =
     let e : s.start + s.size ≤ end_of_last (s ∷ ss) = below_end low s ss a.1 o.1 in
     ap (λ t. t ∷ map (reshaped start size) (map segment_shape ss ++ (data_at 0xBFF00000 1048576 ∷ data_at start old ∷ []))) (other-reshaped start size (segment_shape s) (omega (arith, a.0.some)))
-    ∙ ap (λ t. segment_shape s ∷ t) (all-reshaped low (s.start + s.size) start size old ss a.1 o.1 (omega (arith, end_of_tail s ss start h l)) l)
-  where
-    end_of_tail : (s : Segment) (ss : List Segment) (start : ℕ) → end_of_last (s ∷ ss) ≤ start → start < 0xBFF00000 → end_of_last ss ≤ start
-    end_of_tail s [] start h l = omega arith
-    end_of_tail s (t ∷ ss) start h l = h
+    ∙ ap (λ t. segment_shape s ∷ t) (all-reshaped low (s.start + s.size) start size old ss a.1 o.1 (end_of_tail s ss start h) l)
 
 pub shapes-resized : (exe : Exe) (brk to : ℕ) (rs : List Region) → IsGuest exe → map shape_of rs ≡ shapes_of exe brk → map shape_of (map (resized exe.brk_start (to - exe.brk_start)) rs) ≡ shapes_of exe to
 shapes-resized exe brk to rs g h =
@@ -164,10 +156,6 @@ KeepsCode-segments low end start old (s ∷ ss) a o h l =
     only : (w x : Bool) → x ≡ true → (w && x) ≡ false → w ≡ false
     only true x e h = cc
     only false x e h = refl
-
-    end_of_tail : (s : Segment) (ss : List Segment) (start : ℕ) → end_of_last (s ∷ ss) ≤ start → end_of_last ss ≤ start
-    end_of_tail s [] start h = omega arith
-    end_of_tail s (t ∷ ss) start h = h
 
 pub KeepsCode-shapes : (exe : Exe) (brk : ℕ) → IsGuest exe → KeepsCode exe.brk_start (shapes_of exe brk)
 KeepsCode-shapes exe brk g =

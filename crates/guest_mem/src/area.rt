@@ -29,6 +29,7 @@ pub fn size(w: Width) -> usize
 fn resize(bytes: &mut Vec<u8>, size: usize) -> Result<(), AllocError>
     ensures ok { OnOk result (bytes.new.items ≡ take size (bytes.old.items ++ zeros size)) }
     ensures err { OnErr result (bytes.new.items ≡ bytes.old.items) }
+    ensures grows { OnErr result (length bytes.old.items < size) }
 {
     bytes.resize(size, 0)
 }
@@ -164,6 +165,7 @@ impl Area {
     pub fn resize(&mut self, size: usize) -> Result<(), AllocError>
         ensures ok { OnOk result (self.new ≡ record self.old { bytes = take size (self.old.bytes ++ zeros size) }) }
         ensures err { OnErr result (self.new ≡ self.old) }
+        ensures grows { OnErr result (length self.old.bytes < size) }
     {
         resize(&mut self.bytes, size)
     }

@@ -32,15 +32,14 @@ pub struct Memory {
 }
 
 impl Model for Memory {
-    ghost use Rattle.std.specs.Prelude.{◌<◌, length};
     ghost use Rattle.guest_mem.specs.View.{MemoryView};
-    ghost use Rattle.guest_mem.specs.Layout.{IsHeapLast};
+    ghost use Rattle.guest_mem.specs.Layout.{HasHeap};
 
     ghost Value = { MemoryView };
 
     ghost view = { λ m. record { regions = m.areas.items; brk_start = m.brk_start; brk = m.brk } };
 
-    ghost invariant = { λ m. (0 < length m.areas.items) × IsHeapLast m.brk_start m.areas.items };
+    ghost invariant = { λ m. HasHeap m.brk_start m.brk m.areas.items };
 }
 
 impl Memory {
@@ -177,11 +176,13 @@ impl Memory {
     }
 
     /// Moves the break, unless it would leave the 67108864 bytes from its start, and answers the break
-    /// afterwards. The bytes that come are zero. After an error all is as before.
+    /// afterwards. The bytes that come are zero. Only a break that rises takes memory, and after an error
+    /// all is as before.
     pub fn set_break(&mut self, to: u32) -> Result<u32, AllocError>
         ensures value { IfOk result (λ brk. brk ≡ self.new.brk) }
         ensures ok { OnOk result (self.new ≡ with_break to self.old) }
         ensures err { OnErr result (self.new ≡ self.old) }
+        ensures rises { OnErr result (self.old.brk < to) }
     {
         if to < self.brk_start || to - self.brk_start > MOST_HEAP {
             return Ok(self.brk);

@@ -1,9 +1,8 @@
-use Rattle.std.proofs.Common.{rules, ◌≡◌, ◌+◌, ◌-◌, ◌*◌, ◌/◌, ◌%◌, ◌^◌, ◌<◌, ◌≤◌, ℕ, Bool, ap, sym, ◌∙◌, subst}
+use Rattle.std.proofs.Common.{◌+◌, ℕ, ap, ◌∙◌}
 use Rattle.std.specs.Prelude.{bit_and}
 use Rattle.std.proofs.lemmas.Nat.{and_mask}
 use Rattle.br_word.specs.Words.{bit}
 use Rattle.br_word.specs.Words.{bits_of}
-use Rattle.br_word.specs.Flags.{add_result}
 use Rattle.br_word.proofs.Results.{bit_from, sum_over, sum_carry}
 use Rattle.br_word.proofs.flags.add_flags.Goals as goal
 

@@ -1,9 +1,8 @@
-use Rattle.std.proofs.Common.{rules, ◌≡◌, ◌+◌, ◌-◌, ◌*◌, ◌/◌, ◌%◌, ◌^◌, ◌<◌, ◌≤◌, ℕ, Bool, ap, sym, ◌∙◌, subst, arith}
+use Rattle.std.proofs.Common.{◌≡◌, ◌+◌, ◌-◌, ◌%◌, ◌^◌, ℕ, ap, ◌∙◌, arith}
 use Rattle.std.specs.Prelude.{bit_and}
 use Rattle.std.proofs.lemmas.Nat.{and_mask, pow_pos}
 use Rattle.br_word.specs.Words.{bit}
 use Rattle.br_word.specs.Words.{bits_of}
-use Rattle.br_word.specs.Flags.{sub_result}
 use Rattle.br_word.proofs.Results.{bit_from, difference_over}
 use Rattle.br_word.proofs.flags.sub_flags.Goals as goal
 

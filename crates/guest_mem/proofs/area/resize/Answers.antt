@@ -1,4 +1,4 @@
-use Rattle.std.proofs.Common.{◌≡◌, ℕ, List, ◌++◌, ◌-◌, length, take, Result, Ok, Err, ◌∙◌, ap, sym}
+use Rattle.std.proofs.Common.{◌≡◌, ℕ, List, ◌++◌, ◌-◌, length, take, Result, Ok, Err, ◌∙◌, ap}
 use Rattle.std.specs.Prelude.{is_ok, OnOk, if◌then◌else◌, replicate}
 use Rattle.std.specs.declared.alloc.AllocError.{AllocError}
 use Rattle.br_word.specs.Memory.{zeros}

@@ -1,4 +1,4 @@
-use Rattle.std.proofs.Common.{sym, ◌∙◌, arith, length, ◌-◌, ◌+◌, ◌≤◌}
+use Rattle.std.proofs.Common.{sym, arith, ◌-◌}
 use Rattle.br_word.specs.Words.{size_of}
 use Rattle.guest_mem.proofs.Places.{covers-bounds}
 use Rattle.guest_mem.proofs.Numbers.{number_of-1, number_of-2, number_of-4}

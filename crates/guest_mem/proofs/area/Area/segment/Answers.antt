@@ -1,4 +1,4 @@
-use Rattle.std.proofs.Common.{◌≡◌, ◌++◌, length, take, sym, ◌∙◌, ap}
+use Rattle.std.proofs.Common.{◌≡◌, ◌++◌, take, ◌∙◌, ap}
 use Rattle.br_word.specs.Memory.{Region, zeros}
 use Rattle.guest_mem.proofs.Numbers.{take-filled}
 use Rattle.guest_mem.proofs.area.Area.segment.Goals as goal

@@ -1,4 +1,4 @@
-use Rattle.std.proofs.Common.{◌≡◌, ◌++◌, ◌-◌, length, take, true, false, sym, ◌∙◌, ap}
+use Rattle.std.proofs.Common.{◌≡◌, ◌++◌, ◌-◌, length, take, true, false, ◌∙◌, ap}
 use Rattle.br_word.specs.Memory.{Region, zeros}
 use Rattle.guest_mem.specs.Regions.{stack_with}
 use Rattle.guest_mem.proofs.Numbers.{take-own_zeros}

@@ -1,4 +1,4 @@
-use Rattle.std.proofs.Common.{◌≡◌, List, Option, Some, None, sym, ◌∙◌, ap, true, refl}
+use Rattle.std.proofs.Common.{◌≡◌, List, Option, Some, None, sym, ◌∙◌, ap, true}
 use Rattle.std.specs.Prelude.{is_some}
 use Rattle.br_word.specs.Memory.{Region, written}
 use Rattle.guest_mem.specs.View.{MemoryView, with_regions}

@@ -1,4 +1,4 @@
-use Rattle.std.proofs.Common.{sym, ◌∙◌, ap, take, length, Some, None}
+use Rattle.std.proofs.Common.{sym, ◌∙◌, ap, take, length, Some}
 use Rattle.std.specs.Prelude.{option_map, is_some}
 use Rattle.br_word.specs.Memory.{Reads}
 use Rattle.guest_mem.proofs.Places.{covers-place, bytes_at-None, bytes_at-Some}

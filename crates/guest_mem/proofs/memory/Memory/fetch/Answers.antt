@@ -1,5 +1,5 @@
 use Rattle.std.proofs.Common.{◌-◌, ◌++◌, length, take, drop, sym, ◌∙◌, ap, refl, arith, length-take}
-use Rattle.br_word.specs.Memory.{Runs, Region}
+use Rattle.br_word.specs.Memory.{Runs}
 use Rattle.guest_mem.specs.View.{fetched}
 use Rattle.guest_mem.proofs.Places.{covers-place, covers-bounds, covers-within, bytes_at-None, bytes_at-Some}
 use Rattle.guest_mem.proofs.Numbers.{length-fetched, take-fetched}

@@ -1,6 +1,6 @@
-use Rattle.std.proofs.Common.{sym, ◌∙◌, ap, subst, ◌≡◌, get_or, take, Some, None}
+use Rattle.std.proofs.Common.{sym, ◌∙◌, ap, take, Some}
 use Rattle.std.specs.Prelude.{option_map}
-use Rattle.br_word.specs.Memory.{Reads, Region, number_of}
+use Rattle.br_word.specs.Memory.{Reads, number_of}
 use Rattle.br_word.specs.Words.{size_of}
 use Rattle.guest_mem.proofs.Places.{covers-place, bytes_at-None, bytes_at-Some}
 use Rattle.guest_mem.proofs.memory.Memory.load.Goals as goal

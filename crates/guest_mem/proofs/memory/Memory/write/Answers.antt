@@ -1,9 +1,10 @@
-use Rattle.std.proofs.Common.{sym, ◌∙◌, ap, length, set, arith, length-set}
+use Rattle.std.proofs.Common.{sym, ◌∙◌, ap, length, set, ◌-◌, arith}
 use Rattle.std.specs.Prelude.{is_some}
 use Rattle.br_word.specs.Memory.{Writes, Region}
 use Rattle.guest_mem.specs.View.{MemoryView, with_regions}
-use Rattle.guest_mem.proofs.Places.{covers-place, written-None, written-Some}
-use Rattle.guest_mem.proofs.Heaps.{IsHeapLast-set}
+use Rattle.guest_mem.proofs.Places.{covers-place, covers-bounds, written-None, written-Some}
+use Rattle.guest_mem.proofs.Heaps.{HasHeap-set}
+use Rattle.guest_mem.proofs.Numbers.{length-put_over}
 use Rattle.guest_mem.proofs.memory.Memory.write.Goals as goal
 
 pub copy_in-requires : goal.copy_in-requires
@@ -13,7 +14,12 @@ copy_in-requires c =
 
 pub invariant_of-self : goal.invariant_of-self
 invariant_of-self c =
-    (omega (arith, length-set c.self.inside.areas.items c.in-Some.place c.copy_in.new.self, c.self.invariant.0), IsHeapLast-set c.self.inside.brk_start c.self.inside.areas.items c.in-Some.place c.index_mut.result.now c.copy_in.new.self c.self.invariant.1 c.index_mut.ensures.value (ap (λ (r : Region). r.start) c.copy_in.ensures))
+    let r = c.index_mut.result.now in
+    let bounds = covers-bounds r c.args.at (length c.args.from.now) (covers-place Writes c.args.at (length c.args.from.now) c.self.inside.areas.items c.in-Some.place r
+    (rw (← c.self.view_is) at (sym c.write_place.ensures ∙ c.in-Some.is)) c.index_mut.ensures.value) in
+    HasHeap-set c.self.inside.brk_start c.self.inside.brk c.self.inside.areas.items c.in-Some.place r c.copy_in.new.self c.self.invariant c.index_mut.ensures.value
+    (ap (λ (s : Region). s.start) c.copy_in.ensures)
+    (ap (λ (s : Region). length s.bytes) c.copy_in.ensures ∙ length-put_over r.bytes c.args.from.now (c.args.at - r.start) (omega (arith, bounds)))
 
 pub returns-in-None-clause-allowed : goal.returns-in-None-clause-allowed
 returns-in-None-clause-allowed c =

@@ -1,0 +1,200 @@
+#!/usr/bin/env python3
+"""Measures a BinRec program at growing sizes, beside the reference program in the same run where that can be built.
+
+usage: bench.py [--repeat N] [--only WORD] [--reference "PROGRAM WORD.." | --alone] PROGRAM [WORD..]
+
+Each line has the size, the processor time (the least of N runs), the time for one unit of the size, the most memory of the
+process (what is below that of this script, some 15 MiB, is not seen), and the ratios of time and memory to the reference. Time for one unit that stays the same down a table is growth
+in proportion to size. The reference is built with cargo from ../shared/oracle where that folder is there.
+"""
+import argparse, os, shlex, shutil, struct, subprocess, sys, tempfile
+
+TOP = os.path.dirname(os.path.dirname(os.path.abspath(__file__)))
+START = 0x08048000
+EXIT = bytes.fromhex("b801000000 bb00000000 cd80")
+
+
+def word(n):
+    return struct.pack("<I", n % 2**32)
+
+
+def executable(code, data=0, tail=0):
+    """One segment with the headers, the code and `data` bytes after it; then one to write, with `tail` zero bytes."""
+    base = 52 + 64
+    size = base + len(code) + data
+    head = b"\x7fELF\1\1\1".ljust(16, b"\0") + struct.pack("<HHIIIIIHHHHHH", 2, 3, 1, START + base, 52, 0, 0, 52, 32, 2, 0, 0, 0)
+    room = (START + size + 4095) // 4096 * 4096
+    first = struct.pack("<IIIIIIII", 1, 0, START, START, size, size, 5, 4096)
+    second = struct.pack("<IIIIIIII", 1, 0, room, room, 0, tail, 6, 4096)
+    return head + first + second + code + bytes(k * 7 % 256 for k in range(256)) * (data // 256) + bytes(data % 256), room
+
+
+def counting_loop(turns):
+    """mov ecx,turns; dec ecx; jnz back: two steps a turn."""
+    return executable(b"\xb9" + word(turns) + bytes.fromhex("49 75fd") + EXIT)[0]
+
+
+def memory_loop(turns):
+    """add [room],ecx; mov eax,[room]; push eax; pop edx; dec ecx; jnz back: six steps a turn."""
+    _, room = executable(b"", tail=4096)
+    body = b"\x01\x0d" + word(room) + b"\xa1" + word(room) + bytes.fromhex("50 5a 49")
+    return executable(b"\xb9" + word(turns) + body + b"\x75" + bytes([256 - len(body) - 2]) + EXIT, tail=4096)[0]
+
+
+def repeated_store(length):
+    """rep stosb over `length` bytes: a step a byte."""
+    _, room = executable(b"", tail=length)
+    return executable(b"\xb9" + word(length) + b"\xbf" + word(room) + bytes.fromhex("b041 f3aa") + EXIT, tail=length)[0]
+
+
+def repeated_move(turns):
+    """rep movsd of 1 KiB, again and again, in a segment of 64 MiB: what one access costs in a large memory."""
+    _, room = executable(b"", tail=60 << 20)
+    move = b"\xb9" + word(256) + b"\xbe" + word(room) + b"\xbf" + word(room + (59 << 20)) + bytes.fromhex("f3a5")
+    code = b"\xba" + word(turns // 256) + move + b"\x4a\x75" + bytes([256 - len(move) - 3]) + EXIT
+    return executable(code, tail=60 << 20)[0]
+
+
+def large_file(size):
+    return executable(EXIT, data=size - 52 - 64 - len(EXIT))[0]
+
+
+def large_memory(size):
+    return executable(EXIT, tail=size)[0]
+
+
+def many_functions(count):
+    """`count` calls of `count` short functions, each with a conditional jump: about four blocks a function."""
+    bodies = b"".join(b"\x81\xc0" + word(0x9E3779B9 * (k + 1)) + bytes.fromhex("7802 f7d0 c3") for k in range(count))
+    calls = b"".join(b"\xe8" + word(5 * (count - k - 1) + len(EXIT) + 11 * k) for k in range(count))
+    return executable(calls + EXIT + bodies)[0]
+
+
+# What is measured: its name, the unit, the sizes, how a size is made, and the words; what they need is made by the words before.
+LARGE = ["run", "--steps", "1", "E"]
+TABLES = [
+    ("run, counting loop", "step", [200_000, 500_000, 1_000_000, 2_000_000, 4_000_000], lambda n: counting_loop(n // 2), ["run", "E"]),
+    ("run, memory loop", "step", [120_000, 600_000, 1_200_000, 3_000_000], lambda n: memory_loop(n // 6), ["run", "E"]),
+    ("run, repeated store", "byte", [65536, 262144, 1048576, 4194304], repeated_store, ["run", "E"]),
+    ("run, moves in 64 MiB", "step", [131072, 524288, 2097152], repeated_move, ["run", "E"]),
+    ("run, file read", "byte", [1 << 20, 4 << 20, 16 << 20, 64 << 20], large_file, LARGE),
+    ("run, memory made", "byte", [1 << 20, 4 << 20, 16 << 20, 64 << 20, 192 << 20], large_memory, LARGE),
+    ("build, file", "byte", [1 << 16, 1 << 18, 1 << 20, 4 << 20, 16 << 20], large_file, ["build", "N", "E"]),
+    ("build, memory", "byte", [1 << 20, 4 << 20, 16 << 20, 63 << 20], large_memory, ["build", "N", "E"]),
+    ("trace, functions", "function", [250, 1000, 4000, 16000], many_functions, ["trace", "T", "E"]),
+    ("build, functions", "function", [250, 1000, 4000, 16000], many_functions, ["build", "N", "E", "T"]),
+]
+
+
+def reference():
+    """The reference program's words, or None."""
+    source = os.path.join(TOP, "..", "shared", "oracle")
+    if not os.path.isdir(source) or not shutil.which("cargo"):
+        return None
+    target = os.path.join(tempfile.gettempdir(), f"binrec-reference-{os.getuid()}")
+    done = subprocess.run(["cargo", "build", "--release", "--offline", "-q", "--target-dir", target], cwd=source)
+    return [os.path.join(target, "release", "oracle")] if done.returncode == 0 else None
+
+
+def call(program, words, folder):
+    """Seconds of the processor, the most memory in bytes, status and the last line of the report."""
+    with open(os.path.join(folder, "report"), "w+b") as report:
+        child = subprocess.Popen([*program, *words], cwd=folder, stdin=subprocess.DEVNULL, stdout=subprocess.DEVNULL, stderr=report)
+        _, ended, used = os.wait4(child.pid, 0)
+        seconds = used.ru_utime + used.ru_stime
+        child.returncode = os.waitstatus_to_exitcode(ended)
+        report.seek(0)
+        last = report.read().decode(errors="replace").splitlines()[-1:]
+    return seconds, used.ru_maxrss * 1024, child.returncode, last[0] if last else ""
+
+
+def knows(program, command, folder):
+    return call(program, [command], folder)[3] != "usage 0"
+
+
+def knows_all_instructions(program, folder):
+    with open(os.path.join(folder, "E"), "wb") as f:
+        f.write(executable(b"\x21\xc0" + EXIT)[0])
+    return call(program, ["run", "E"], folder)[3].startswith("exit 0 steps 4 ")
+
+
+def measured(program, words, folder, repeat):
+    runs = [call(program, words, folder) for _ in range(repeat)]
+    return min(r[0] for r in runs), max(r[1] for r in runs), runs[0][2], runs[0][3]
+
+
+def write_file(names, make, size):
+    """Writes the file in a process of its own, whose memory this one does not keep."""
+    child = os.fork()
+    if child == 0:
+        file = make(size)
+        for name in names:
+            with open(name, "wb") as f:
+                f.write(file)
+        os._exit(0)
+    if os.waitpid(child, 0)[1] != 0:
+        sys.exit("no file could be made")
+
+
+def compare(unit, size, sides, words, repeat):
+    """One line of a table; answers whether all sides ended alike."""
+    found = [measured(program, words, folder, repeat) for program, folder in sides]
+    seconds, memory, status, last = found[0]
+    line = f"  {size:>10} {seconds:9.3f} s {seconds / size * 1e9:12.1f} ns/{unit} {memory / 2**20:8.1f} MiB"
+    if len(found) > 1:
+        ratio = f"x{seconds / found[1][0]:.2f}" if found[1][0] >= 0.01 else "(too short)"
+        line += f"   time {ratio} memory x{memory / found[1][1]:.2f}"
+    alike = all(f[2:] == found[0][2:] for f in found) or words[0] in ("trace", "build") and all(f[2] == status for f in found)
+    if status not in (0, 6) or not alike:
+        line += f"   ENDED WITH {' / '.join(f'{f[2]} {f[3]}' for f in found)}"
+    print(line, flush=True)
+    return alike and status in (0, 6)
+
+
+def table(entry, sides, repeat):
+    title, unit, sizes, make, words = entry
+    print(f"{title}: {' '.join(words)}")
+    good = True
+    for size in sizes:
+        write_file([os.path.join(folder, "E") for _, folder in sides], make, size)
+        for program, folder in sides:
+            if "T" in words and words[0] == "build":
+                call(program, ["trace", "T", "E"], folder)
+        good = compare(unit, size, sides, words, repeat) and good
+    return good
+
+
+def main():
+    p = argparse.ArgumentParser(description=__doc__, formatter_class=argparse.RawDescriptionHelpFormatter)
+    p.add_argument("--repeat", type=int, default=2)
+    p.add_argument("--only", default="")
+    p.add_argument("--reference")
+    p.add_argument("--alone", action="store_true")
+    p.add_argument("program", nargs=argparse.REMAINDER)
+    a = p.parse_args()
+    if not a.program:
+        p.error("no PROGRAM")
+    program = [os.path.abspath(shutil.which(a.program[0]) or a.program[0]), *a.program[1:]]
+    other = None if a.alone else shlex.split(a.reference) if a.reference else reference()
+    if not other and not a.alone:
+        print("skipped: the reference (no ../shared/oracle, no cargo, or it does not build)")
+    good = True
+    with tempfile.TemporaryDirectory(prefix="bench-") as top:
+        sides = [(words, os.path.join(top, str(k))) for k, words in enumerate([program, other] if other else [program])]
+        for _, folder in sides:
+            os.mkdir(folder)
+        for entry in TABLES:
+            words = entry[4]
+            if a.only not in entry[0]:
+                continue
+            if not all(knows(program, words[0], folder) for program, folder in sides) or words == ["build", "N", "E", "T"] and not knows(program, "trace", sides[0][1]):
+                print(f"skipped: {entry[0]}: no such command yet")
+            elif words[0] != "build" and not knows_all_instructions(*sides[0]) and words != LARGE:
+                print(f"skipped: {entry[0]}: the program does not know the whole instruction table yet")
+            else:
+                good = table(entry, sides, a.repeat) and good
+    return 0 if good else 1
+
+
+if __name__ == "__main__":
+    sys.exit(main())

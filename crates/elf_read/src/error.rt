@@ -1,0 +1,26 @@
+//! Why a file is not read.
+use std::alloc::AllocError;
+use thiserror::Error;
+
+/// Why [`read_elf`](crate::read_elf) gives no executable.
+#[derive(Debug, PartialEq, Eq, Drop, Error)]
+pub enum ElfError {
+    /// The file is refused, by the refusal of the lowest number that holds (1 to 13, docs/FILES.md), at a
+    /// place in the file.
+    #[error("refused {number} {place}")]
+    Refused { number: u8, place: u32 },
+    /// Want of memory.
+    #[error("out of memory")]
+    Memory,
+}
+
+impl From<AllocError> for ElfError {
+    ghost use Rattle.std.specs.Prelude.{◌≡◌};
+    ghost use Rattle.elf_read.specs.declared.error.ElfError.TheVariants.{Memory};
+
+    ghost from_gives = { λ _ e. e ≡ Memory };
+
+    fn from(_: AllocError) -> Self {
+        ElfError::Memory
+    }
+}

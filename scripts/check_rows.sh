@@ -1,0 +1,223 @@
+#!/usr/bin/env bash
+# usage: check_rows.sh PROGRAM [WORD..]
+# Runs the recompiler PROGRAM (the WORDs stand before its own words) on small stated files, real ones in a folder of its own, and
+# compares status, output, report and stored bytes with what is stated here. Where the machine runs 32-bit executables, the
+# original and its recompiled file also run on the processor. Prints each failure, and last 'N passed, M failed'.
+set -u
+[ $# -gt 0 ] || { sed -n 2,2p "$0" >&2; exit 2; }
+here=$(cd "$(dirname "$0")" && pwd)
+. "$here/lib.sh"
+tool=("$@")
+tool[0]=$(realpath "$(command -v "$1" || echo "$1")")
+[ -x "${tool[0]}" ] || { echo "check_rows.sh: $1 is no program" >&2; exit 2; }
+folder=$(mktemp -d) || exit 2
+trap 'rm -rf "$folder"' EXIT
+cd "$folder" || exit 2
+got=$folder/got
+input=/dev/null
+
+# The recompiler with the words after NAME STATUS OUTPUT REPORT must end with that status and those two texts.
+row() {
+    local name=$1 status=$2 output=$3 report=$4
+    shift 4
+    "${tool[@]}" "$@" < "$input" > got.out 2> got.err
+    local found=$?
+    if [ "$found" != "$status" ]; then
+        fail "$name: status $found, wanted $status: $(tail -n 1 got.err)"
+    elif ! printf '%b' "$output" | cmp -s - got.out; then
+        fail "$name: output $(head -c 200 got.out), wanted $output"
+    elif ! printf '%b' "$report" | cmp -s - got.err; then
+        fail "$name: report $(head -c 200 got.err), wanted $report"
+    else
+        pass
+    fi
+}
+
+# A row that must store nothing under the name N, and leave what stands there.
+row_keeping() {
+    printf 'as before' > N
+    row "$@"
+    if [ "$(cat N)" = 'as before' ]; then pass; else fail "$1: the file N was changed"; fi
+    rm -f N
+}
+
+# Whether the bytes of FILE from OFFSET are those of the other file.
+holds_at() {
+    if tail -c +$(($3 + 1)) "$2" | head -c "$(wc -c < "$4")" | cmp -s - "$4"; then pass; else fail "$1"; fi
+}
+
+# Writes hi and LF to descriptor 1, and exits with 0; the text stands at the end of the code.
+hi_code() {
+    echo "b804000000 bb01000000 b9$(word $(($1 + 118))) ba03000000 cd80 b801000000 bb00000000 cd80 68690a"
+}
+exit_code='b801000000 bb00000000 cd80'
+
+build_rows() {
+    row 'build without traces' 0 '' 'built 0 5 8313\n' build N X1
+    bytes 'e94f800407' > jump
+    holds_at 'the recovered code is a jump to the entry of the original' N 4096 jump
+    holds_at 'the segment of the original is unchanged' N 8192 X1
+    if [ "$(wc -c < N)" = 8313 ]; then pass; else fail 'the recompiled file has 8313 bytes'; fi
+    cp N N1
+    cp -- X1 -dash
+    row 'names that begin with a dash' 0 '' 'built 0 5 8313\n' build -N -dash
+    if cmp -s N1 -- -N; then pass; else fail 'a name that begins with a dash: another file'; fi
+    row 'over the original' 0 '' 'built 0 5 8313\n' build -dash -dash
+    if cmp -s N1 -- -dash; then pass; else fail 'the file that is read is the file that is written: another file'; fi
+}
+
+# The first refusal of each file, with its place; nothing is stored.
+refusal_rows() {
+    : > empty
+    row_keeping 'an empty file' 2 '' 'refused word 2 1 0\n' build N empty
+    head -c 51 X1 > short
+    row_keeping '51 bytes' 2 '' 'refused word 2 1 51\n' build N short
+    { printf '\0'; tail -c +2 X1; } > magic
+    row_keeping 'a wrong first byte' 2 '' 'refused word 2 2 0\n' build N magic
+    executable writable "$(hi_code 0x08048000)" 0x08048000 7
+    row_keeping 'a segment to write and execute' 2 '' 'refused word 2 8 52\n' build N writable
+    { head -c 44 writable; bytes 0200; tail -c +47 writable | head -c 38; bytes "$(word 3) $(printf '00%.0s' {1..28})"; tail -c +85 writable; } > interpreted
+    row_keeping 'a PT_INTERP after it' 2 '' 'refused word 2 7 84\n' build N interpreted
+    executable low "$(hi_code 0x07fff000)" 0x07fff000
+    row_keeping 'a segment below the lowest address' 2 '' 'refused word 2 9 52\n' build N low
+    { head -c 24 X1; bytes "$(word 0x08049000)"; tail -c +29 X1; } > outside
+    row_keeping 'an entry outside' 2 '' 'refused word 2 11 24\n' build N outside
+    { head -c 68 X1; bytes "$(word 122)"; tail -c +73 X1; } > past
+    row_keeping 'a segment past the end of the file' 2 '' 'refused word 2 9 52\n' build N past
+    truncate -s 16777217 long
+    row_keeping 'a file over the limit' 7 '' 'limit file 16777216\n' build N long
+    row_keeping 'an absent file' 3 '' 'outside shelf\n' build N absent
+}
+
+usage_rows() {
+    row 'no words' 1 '' 'usage 0\n'
+    row 'an unknown command' 1 '' 'usage 0\n' recompile N X1
+    row 'a missing name' 1 '' 'usage 2\n' build N
+    row_keeping 'an empty name' 1 '' 'usage 2\n' build N ''
+    row 'a name of 4097 bytes' 1 '' 'usage 1\n' build "$(printf '%04097d' 0)" X1
+}
+
+outside_rows() {
+    row 'a folder that is not there' 3 '' 'outside shelf\n' build nowhere/N X1
+    [ -w /dev/full ] || { skip 'a full device: no /dev/full'; return; }
+    "${tool[@]}" build N X1 2> /dev/full
+    if [ $? = 3 ]; then pass; else fail 'a report that cannot be written: status 3 wanted'; fi
+}
+
+run_rows() {
+    row 'run of the original' 0 'hi\n' 'exit 0 steps 8 undefined 0\n' run X1
+    row 'run of the recompiled file' 0 'hi\n' 'exit 0 steps 9 undefined 0\n' run N1
+    row 'run below the lowest address of an original' 0 'hi\n' 'exit 0 steps 8 undefined 0\n' run low
+    row 'a budget of no steps' 6 '' 'budget steps 0 undefined 0\n' run --steps 0 X1
+    row 'a budget that is just met' 0 'hi\n' 'exit 0 steps 8 undefined 0\n' run --steps 8 X1
+    row 'a budget that is one too small' 6 'hi\n' 'budget steps 7 undefined 0\n' run --steps 7 X1
+    executable illegal 'b801000000 0f0b'
+    row 'bytes that spell nothing' 5 '' 'fault illegal 08048059 steps 2 undefined 0\n' run illegal
+    row 'words that are wrong' 1 '' 'usage 2\n' run --steps x X1
+    row 'a budget of 19 digits' 1 '' 'usage 2\n' run --steps 1234567890123456789 X1
+    row 'no file' 1 '' 'usage 1\n' run
+    row 'too many words' 1 '' 'usage 258\n' run X1 $(seq 257)
+    row '256 words' 0 'hi\n' 'exit 0 steps 8 undefined 0\n' run X1 $(seq 256)
+    row 'an absent guest' 3 '' 'outside shelf\n' run absent
+}
+
+# What needs the whole instruction table: division, flags, reading.
+machine_rows() {
+    executable turn 'ebfe'
+    row 'a budget of 10 steps' 6 '' 'budget steps 10 undefined 0\n' run --steps 10 turn
+    executable reading 'a100000000'
+    row 'a read where nothing is' 5 '' 'fault access 00000000 steps 1 undefined 0\n' run reading
+    executable writing 'a300800408'
+    row 'a write to a segment without leave' 5 '' 'fault access 08048000 steps 1 undefined 0\n' run writing
+    executable divide "b804000000 bb01000000 b97b800408 ba03000000 cd80 b801000000 ba00000000 b900000000 f7f1 68690a"
+    row 'a division by zero' 5 'hi\n' 'fault divide 08048079 steps 9 undefined 0\n' run divide
+    executable defined "21c0 7200 $exit_code"
+    row 'a flag that AND defines' 0 '' 'exit 0 steps 5 undefined 0\n' run defined
+    executable undefined "f7e0 7400 $exit_code"
+    row 'a flag that MUL leaves undefined' 0 '' 'exit 0 steps 5 undefined 1\n' run undefined
+    executable header 'b804000000 bb01000000 b900800408 ba04000000 cd80 b801000000 bb00000000 cd80'
+    row 'a guest that writes its own header' 0 '\x7fELF' 'exit 0 steps 8 undefined 0\n' run header
+    executable three 'b803000000 bb00000000 8d4c24f0 ba03000000 cd80 89c3 b801000000 cd80'
+    printf 12345 > five
+    { "${tool[@]}" run three > got.out 2> got.err; cat > got.left; } < five
+    if [ "$(cat got.err)" = 'exit 3 steps 8 undefined 0' ] && [ "$(cat got.left)" = 45 ]; then pass; else
+        fail "a read of three of five bytes: $(cat got.err), and '$(cat got.left)' is left, wanted 45"; fi
+    input=/
+    row 'an input that cannot be read' 3 '' 'outside input\n' run three
+    input=/dev/null
+    executable heap 'b82d000000 bb00000000 cd80 89c3 c1eb0c b801000000 cd80'
+    row 'the break is at the next page' 0 '' 'exit 73 steps 7 undefined 0\n' run heap
+    executable words '8b1c24 b801000000 cd80'
+    row 'the number of arguments' 0 '' 'exit 3 steps 3 undefined 0\n' run words one ''
+    [ -w /dev/full ] || return
+    "${tool[@]}" run X1 > /dev/full 2> got.err
+    if [ $? = 3 ] && [ "$(cat got.err)" = 'outside output' ]; then pass; else fail "an output that cannot be written: $(cat got.err)"; fi
+}
+
+trace_rows() {
+    row 'trace' 0 'hi\n' 'exit 0 steps 8 undefined 0 edges 1\n' trace T1 X1
+    if [ "$(head -c 7 T1)" = BRTRACE ]; then pass; else fail 'a trace file begins with BRTRACE'; fi
+    row 'a budget for a trace' 6 '' 'budget steps 10 undefined 0 edges 2\n' trace --steps 10 T9 turn
+    if [ -s T9 ]; then pass; else fail 'a trace whose budget is met is stored'; fi
+    row_keeping 'a trace of another file' 2 '' 'refused word 3 22 8\n' build N X1 T9
+    row_keeping 'a file that is no trace' 2 '' 'refused word 3 21 0\n' build N X1 X1
+    knows merge || return
+    row 'merge' 0 '' 'merged 1\n' merge T2 X1 T1 T1
+    [ "$(head -c 8 T1)" = BRTRACE1 ] || return
+    if cmp -s T1 T2; then pass; else fail 'a trace joined with itself is another file'; fi
+}
+
+traced_rows() {
+    local line
+    line=$("${tool[@]}" build N2 X1 T1 2>&1)
+    [[ $line =~ ^built\ 0\  ]] && { skip 'build with traces: the program makes no blocks yet'; return; }
+    if [[ $line =~ ^built\ 5\ [0-9]+\ 8313$ ]]; then pass; else fail "build with a trace: $line"; fi
+    "${tool[@]}" run N2 > got.out 2> got.err
+    if [ "$(cat got.out)" = hi ] && [[ $(cat got.err) =~ ^exit\ 0\ steps\ [0-9]+\ undefined\ 0$ ]]; then pass; else fail "run of the file with a trace: $(cat got.err)"; fi
+    native_row 'the file with a trace on the processor' N2
+}
+
+# hi and status 0 on the processor or its emulator.
+native_row() {
+    [ "$native_kind" != none ] || return 0
+    chmod +x "$2"
+    run_natively "${native[@]}" "./$2"
+    if [ "$status" = 0 ] && [ "$(cat got.out)" = hi ] && [ ! -s got.err ]; then pass; else fail "$1: status $status, $(cat got.out)"; fi
+}
+
+executable X1 "$(hi_code 0x08048000)"
+executable zero "$exit_code"
+chmod +x zero
+find_native ./zero
+build_rows
+refusal_rows
+usage_rows
+outside_rows
+if [ "$native_kind" = none ]; then
+    skip 'on the processor: this machine runs no 32-bit executable and has no qemu-i386'
+fi
+native_row 'the original on the processor' X1
+native_row 'its recompiled file on the processor' N1
+if knows run; then
+    run_rows
+    if knows_all_instructions; then machine_rows; else
+        skip 'rows on arithmetic, flags and input: the program does not know the whole instruction table yet'; fi
+else
+    skip 'run: the program has no such command yet'
+fi
+if knows trace; then
+    trace_rows
+    traced_rows
+else
+    skip 'traces: the program has no command trace yet'
+fi
+if knows show; then
+    "${tool[@]}" show X1 T1 > got.out 2> got.err
+    if [ "$(cat got.err)" = 'shown 5' ]; then pass; else fail "show: $(cat got.err)"; fi
+fi
+if knows session; then
+    printf 'add T1\nadd T1\nremove 1\nemit N3\nremove 1\n' > script
+    "${tool[@]}" session X1 < script > got.out 2> got.err
+    if [ $? = 2 ] && [ "$(cat got.err)" = 'refused line 5 32 0' ] && cmp -s N2 N3; then pass; else fail "session: $(cat got.err)"; fi
+fi
+finish
