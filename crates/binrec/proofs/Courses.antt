@@ -27,9 +27,9 @@ Holds name P told = IfSome told (λ files. (content : List ℕ) × (files name �
 -- what was done to the shelf by the work of `build N E`, and how it ended
 pub data Course (name original : List ℕ) (old : ShelfView) (o : End) (new : ShelfView) : Type 0 where
   Wants : o ≡ Err Memory → new.files ≡ old.files → Course name original old o new
-  Misses : o ≡ Err (Outside objects.Shelf) → new.files ≡ old.files → (IsTrue old.calm → IfSome old.files (λ files. files original ≡ None)) → Course name original old o new
+  Misses : o ≡ Err (Outside objects.Shelf) → new.files ≡ old.files → Rose old.faults new.faults → (IsTrue old.calm → IfSome old.files (λ files. files original ≡ None)) → Course name original old o new
   Passes : o ≡ Err (Because (Limited (limits.File 16777216))) → new.files ≡ old.files → Holds original (λ content. 16777216 < length content) old.files → Course name original old o new
-  Refuses : (refused : Refused) → o ≡ Err (Because (RefusedWord 2 refused.number refused.place)) → new.files ≡ old.files → Holds original (λ content. elf Original content ≡ Err refused) old.files → Course name original old o new
+  Refuses : (refused : Refused) → o ≡ Err (Because (RefusedWord 2 refused.number refused.place)) → new.files ≡ old.files → Holds original (λ content. (length content ≤ 16777216) × (elf Original content ≡ Err refused)) old.files → Course name original old o new
   Breaks : o ≡ Err (Outside objects.Shelf) → SameBut name old.files new.files → Rose old.faults new.faults → (IsTrue old.calm → ⊥) → Course name original old o new
   Keeps : (content : List ℕ) (exe : Exe) → IfSome old.files (λ files. files original ≡ Some content) → length content ≤ 16777216 → elf Original content ≡ Ok exe
       → new.files ≡ option_map (put name (Some (image exe))) old.files → (o ≡ Ok (done_with (built_line 0 5 (length (image exe))))) ⊎ (o ≡ Err Memory) → Course name original old o new
@@ -60,12 +60,12 @@ reads : (name original content : List ℕ) (s : World) (v : ShelfView) (o : End)
 unfolding Went
 reads name original content s v o t was (Ok exe) read went = stores name original content exe s v o t was read went
 reads name original content s v o t was (Err refused) read (inl (m, same)) = (v, same, Wants m was.same)
-reads name original content s v o t was (Err refused) read (inr (is, same)) = (v, same, Refuses refused is was.same (holds_so original content (λ c. elf Original c ≡ Err refused) s.shelf.files read was.gives.1))
+reads name original content s v o t was (Err refused) read (inr (is, same)) = (v, same, Refuses refused is was.same (holds_so original content (λ c. (length c ≤ 16777216) × (elf Original c ≡ Err refused)) s.shelf.files (was.gives.0, read) was.gives.1))
 
 pub course : (name original : List ℕ) (s : World) (o : End) (t : World) → Went (build_plan name original) s o t → Taken name original s o t
 unfolding Went
 course name original s o t (inl (m, same)) = (s.shelf, same, Wants m refl)
 course name original s o t (inr (v, Ok content, was, went)) = reads name original content s v o t was (elf Original content) refl went
-course name original s o t (inr (v, Err shelf_errors.Failed, was, (is, same))) = (v, same, Misses is was.same was.gives.1)
+course name original s o t (inr (v, Err shelf_errors.Failed, was, (is, same))) = (v, same, Misses is was.same was.gives.0 was.gives.1)
 course name original s o t (inr (v, Err shelf_errors.TooLong, was, (is, same))) = (v, same, Passes is was.same was.gives.0)
 course name original s o t (inr (v, Err shelf_errors.Memory, was, (is, same))) = (v, same, Wants is was.same)

@@ -1,6 +1,7 @@
 -- What the answers of the commands mean, by the courses that their work can take.
-use Rattle.std.proofs.Common.{◌≡◌, ◌⊎◌, ◌<◌, ◌≤◌, ℕ, List, ◌++◌, length, Option, Some, None, IfSome, Result, Ok, Err, IsTrue, refl, sym, ◌∙◌, ap, subst, inl, inr, arith}
+use Rattle.std.proofs.Common.{◌≡◌, ◌⊎◌, ◌<◌, ◌≤◌, ℕ, List, ◌++◌, length, Option, Some, None, IfSome, Result, Ok, Err, nat_le, Bool, true, false, IsTrue, refl, sym, ◌∙◌, ap, subst, inl, inr, arith}
 use Rattle.std.specs.Option.{option_map}
+use Rattle.std.proofs.lemmas.Bool.{le-leb, lt-leb, cond-true, cond-false}
 use Rattle.br_outside.specs.Files.{Files, put}
 use Rattle.br_outside.specs.Outside.{ShelfView, StreamView, Rose, Gave, SameBut}
 use Rattle.br_outside.specs.declared.errors.SinkError.{SinkError}
@@ -17,7 +18,7 @@ use Rattle.binrec.specs.Plans.Told.{HasFailed}
 use Rattle.binrec.specs.Plans.Happened.{Tells, Reported, Happened}
 use Rattle.binrec.specs.Words.{Asked, Builds, command}
 use Rattle.binrec.specs.Commands.{build_plan, built_line, done_with, of_command, plan}
-use Rattle.binrec.specs.Meaning.{Says, Unstored, OnlyUnder, IsStored, Stores, MeansBuild, MeansUsage}
+use Rattle.binrec.specs.Meaning.{Says, Unstored, OnlyUnder, IsStored, Stores, build_status, read_status, MeansBuild, MeansUsage}
 use Rattle.binrec.specs.declared.acts.stop.Stop.TheVariants.{Because, Outside, Memory}
 use Rattle.binrec.specs.declared.acts.stop.Cause.TheVariants.{Usage, RefusedWord, Limited}
 use Rattle.binrec.specs.declared.acts.stop.Object.TheVariants as objects
@@ -80,7 +81,7 @@ done : (name original : List ℕ) (s : World) (o : End) (v : ShelfView) (r : Str
     → (files : Files) → s.shelf.files ≡ Some files → (stored : IsStored name original files (left_as s v r)) × Says (built_line 0 5 (length (image stored.exe))) s (left_as s v r)
 unfolding kept_image
 done name original s o v r law (Wants m same) z files told = other o _ 0 m z.status (λ h. omega (arith, h))
-done name original s o v r law (Misses m same absent) z files told = other o _ 0 m z.status (λ h. omega (arith, h))
+done name original s o v r law (Misses m same rose absent) z files told = other o _ 0 m z.status (λ h. omega (arith, h))
 done name original s o v r law (Passes m same long) z files told = other o _ 0 m z.status (λ h. omega (arith, h))
 done name original s o v r law (Refuses refused m same here) z files told = other o _ 0 m z.status (λ h. omega (arith, h))
 done name original s o v r law (Breaks m same rose loud) z files told = other o _ 0 m z.status (λ h. omega (arith, h))
@@ -89,9 +90,9 @@ done name original s o v r law (Keeps content exe here short accepted stored (in
     (kept_image name original content exe files s (left_as s v r) law here short accepted stored told, line_is o (Ok (done_with (built_line 0 5 (length (image exe))))) s.report.bytes r.bytes z.line is)
 
 refused_2 : (name original : List ℕ) (s : World) (o : End) (v : ShelfView) (r : StreamView) → Course name original s.shelf o v → Said o 2 s r
-    → Unstored s (left_as s v r) × (refused : Refused) × Says (cause_text (RefusedWord 2 refused.number refused.place)) s (left_as s v r) × Holds original (λ content. elf Original content ≡ Err refused) s.shelf.files
+    → Unstored s (left_as s v r) × (refused : Refused) × Says (cause_text (RefusedWord 2 refused.number refused.place)) s (left_as s v r) × Holds original (λ content. (length content ≤ 16777216) × (elf Original content ≡ Err refused)) s.shelf.files
 refused_2 name original s o v r (Wants m same) z = other o _ 2 m z.status (λ h. omega (arith, h))
-refused_2 name original s o v r (Misses m same absent) z = other o _ 2 m z.status (λ h. omega (arith, h))
+refused_2 name original s o v r (Misses m same rose absent) z = other o _ 2 m z.status (λ h. omega (arith, h))
 refused_2 name original s o v r (Passes m same long) z = other o _ 2 m z.status (λ h. omega (arith, h))
 refused_2 name original s o v r (Refuses refused m same here) z = (same, refused, line_is o _ s.report.bytes r.bytes z.line m, here)
 refused_2 name original s o v r (Breaks m same rose loud) z = other o _ 2 m z.status (λ h. omega (arith, h))
@@ -101,7 +102,7 @@ refused_2 name original s o v r (Keeps content exe here short accepted stored (i
 limit_7 : (name original : List ℕ) (s : World) (o : End) (v : ShelfView) (r : StreamView) → Course name original s.shelf o v → Said o 7 s r
     → Unstored s (left_as s v r) × Says (cause_text (Limited (limits.File 16777216))) s (left_as s v r) × Holds original (λ content. 16777216 < length content) s.shelf.files
 limit_7 name original s o v r (Wants m same) z = other o _ 7 m z.status (λ h. omega (arith, h))
-limit_7 name original s o v r (Misses m same absent) z = other o _ 7 m z.status (λ h. omega (arith, h))
+limit_7 name original s o v r (Misses m same rose absent) z = other o _ 7 m z.status (λ h. omega (arith, h))
 limit_7 name original s o v r (Passes m same long) z = (same, line_is o _ s.report.bytes r.bytes z.line m, long)
 limit_7 name original s o v r (Refuses refused m same here) z = other o _ 7 m z.status (λ h. omega (arith, h))
 limit_7 name original s o v r (Breaks m same rose loud) z = other o _ 7 m z.status (λ h. omega (arith, h))
@@ -115,7 +116,7 @@ record IsNamed (original : List ℕ) (s : World) (v : ShelfView) (r : StreamView
 
 shelf_3 : (name original : List ℕ) (s : World) (o : End) (v : ShelfView) (r : StreamView) → Course name original s.shelf o v → Said o 3 s r → IsNamed original s v r
 shelf_3 name original s o v r (Wants m same) z = other o _ 3 m z.status (λ h. omega (arith, h))
-shelf_3 name original s o v r (Misses m same absent) z = record { line = line_is o _ s.report.bytes r.bytes z.line m; absent = λ calm. (same, absent calm) }
+shelf_3 name original s o v r (Misses m same rose absent) z = record { line = line_is o _ s.report.bytes r.bytes z.line m; absent = λ calm. (same, absent calm) }
 shelf_3 name original s o v r (Passes m same long) z = other o _ 3 m z.status (λ h. omega (arith, h))
 shelf_3 name original s o v r (Refuses refused m same here) z = other o _ 3 m z.status (λ h. omega (arith, h))
 shelf_3 name original s o v r (Breaks m same rose loud) z = record { line = line_is o _ s.report.bytes r.bytes z.line m; absent = λ calm. absurd (loud calm) }
@@ -125,7 +126,7 @@ shelf_3 name original s o v r (Keeps content exe here short accepted stored (inl
 -- no course ends with any other status
 never : (name original : List ℕ) (old : ShelfView) (o : End) (v : ShelfView) (k : ℕ) → Course name original old o v → (0 ≡ k → ⊥) → (2 ≡ k → ⊥) → (3 ≡ k → ⊥) → (4 ≡ k → ⊥) → (7 ≡ k → ⊥) → end_status o ≡ k → ⊥
 never name original old o v k (Wants m same) n0 n2 n3 n4 n7 z = other o _ k m z n4
-never name original old o v k (Misses m same absent) n0 n2 n3 n4 n7 z = other o _ k m z n3
+never name original old o v k (Misses m same rose absent) n0 n2 n3 n4 n7 z = other o _ k m z n3
 never name original old o v k (Passes m same long) n0 n2 n3 n4 n7 z = other o _ k m z n7
 never name original old o v k (Refuses refused m same here) n0 n2 n3 n4 n7 z = other o _ k m z n2
 never name original old o v k (Breaks m same rose loud) n0 n2 n3 n4 n7 z = other o _ k m z n3
@@ -139,7 +140,7 @@ record IsLeft (name original : List ℕ) (s t : World) : Type 0 where
 
 left : (name original : List ℕ) (s : World) (o : End) (v : ShelfView) (r : StreamView) → Law → Course name original s.shelf o v → IsLeft name original s (left_as s v r)
 left name original s o v r law (Wants m same) = record { memory = inl same; others = inl same }
-left name original s o v r law (Misses m same absent) = record { memory = inl same; others = inl same }
+left name original s o v r law (Misses m same rose absent) = record { memory = inl same; others = inl same }
 left name original s o v r law (Passes m same long) = record { memory = inl same; others = inl same }
 left name original s o v r law (Refuses refused m same here) = record { memory = inl same; others = inl same }
 left name original s o v r law (Breaks m same rose loud) = record { memory = inr (inl (record { rose = rose; loud = loud })); others = inr same }
@@ -167,8 +168,42 @@ no_guest : (name original : List ℕ) (o : End) (s : World) (v : ShelfView) (r :
 no_guest name original o s v r result c line (inl is) = never name original s.shelf o v 5 c (λ h. omega arith) (λ h. omega arith) (λ h. omega arith) (λ h. omega arith) (λ h. omega arith) (so o s r result 5 line is (λ h. omega arith) (λ h. omega arith)).status
 no_guest name original o s v r result c line (inr is) = never name original s.shelf o v 6 c (λ h. omega arith) (λ h. omega arith) (λ h. omega arith) (λ h. omega arith) (λ h. omega arith) (so o s r result 6 line is (λ h. omega arith) (λ h. omega arith)).status
 
+-- the status where the shelf tells its files
+told_status : (name original : List ℕ) (s : World) (o : End) (v : ShelfView) (r : StreamView) (files : Files) → Course name original s.shelf o v → s.shelf.files ≡ Some files
+    → (o ≡ Err Memory) ⊎ (HasFailed objects.Shelf s (left_as s v r) ⊎ (end_status o ≡ build_status (files original)))
+told_status name original s o v r files (Wants m same) told = inl m
+told_status name original s o v r files (Misses m same rose absent) told = missed s.shelf.calm refl
+  where
+    missed : (calm : Bool) → s.shelf.calm ≡ calm → (o ≡ Err Memory) ⊎ (HasFailed objects.Shelf s (left_as s v r) ⊎ (end_status o ≡ build_status (files original)))
+    missed true is = inr (inr (ap end_status m ∙ sym (ap build_status (told_to s.shelf.files files (λ files. files original ≡ None) told (absent is)))))
+    missed false is = inr (inl (record { rose = rose; loud = λ calm. let h : s.shelf.calm ≡ true = calm in cc }))
+told_status name original s o v r files (Passes m same long) told =
+    let there : (content : List ℕ) × (files original ≡ Some content) × (16777216 < length content) = told_to s.shelf.files files (λ files. (content : List ℕ) × (files original ≡ Some content) × (16777216 < length content)) told long in
+    inr (inr (ap end_status m ∙ sym (ap build_status there.1 ∙ cond-false (nat_le (length there.0) 16777216) _ _ (lt-leb (length there.0) 16777216 there.2))))
+told_status name original s o v r files (Refuses refused m same here) told =
+    let P : Files → Type 0 = λ files. (content : List ℕ) × (files original ≡ Some content) × ((length content ≤ 16777216) × (elf Original content ≡ Err refused)) in
+    let there : P files = told_to s.shelf.files files P told here in
+    inr (inr (ap end_status m ∙ sym (ap build_status there.1 ∙ (cond-true (nat_le (length there.0) 16777216) _ _ (le-leb (length there.0) 16777216 there.2.0) ∙ ap read_status there.2.1))))
+told_status name original s o v r files (Breaks m same rose loud) told = inr (inl (record { rose = rose; loud = loud }))
+told_status name original s o v r files (Keeps content exe here short accepted stored (inr m)) told = inl m
+told_status name original s o v r files (Keeps content exe here short accepted stored (inl m)) told =
+    let there : files original ≡ Some content = told_to s.shelf.files files (λ files. files original ≡ Some content) told here in
+    inr (inr (ap end_status m ∙ sym (ap build_status there ∙ (cond-true (nat_le (length content) 16777216) _ _ (le-leb (length content) 16777216 short) ∙ ap read_status accepted))))
+
+-- the answer where the shelf tells its files
+answers : (original : List ℕ) (s : World) (o : End) (v : ShelfView) (r : StreamView) (result : ℕ) (files : Files) → Line o s.report result r
+    → (o ≡ Err Memory) ⊎ (HasFailed objects.Shelf s (left_as s v r) ⊎ (end_status o ≡ build_status (files original)))
+    → (result ≡ 4) ⊎ (HasFailed objects.Shelf s (left_as s v r) ⊎ (HasFailed objects.Report s (left_as s v r) ⊎ (result ≡ build_status (files original))))
+answers original s o v r result files (inl (four, same)) ends = inl four
+answers original s o v r result files (inr (Ok u, gave, status)) (inl m) = inl (status ∙ ap end_status m)
+answers original s o v r result files (inr (Ok u, gave, status)) (inr (inl failed)) = inr (inl failed)
+answers original s o v r result files (inr (Ok u, gave, status)) (inr (inr is)) = inr (inr (inr (status ∙ is)))
+answers original s o v r result files (inr (Err sink_errors.Failed, gave, status)) ends = inr (inr (inl (record { rose = gave.gives.1; loud = gave.gives.2 })))
+answers original s o v r result files (inr (Err sink_errors.Memory, gave, status)) ends = inl status
+
 means_course : (name original : List ℕ) (o : End) (s : World) (v : ShelfView) (r : StreamView) (result : ℕ) → Law → Course name original s.shelf o v → Line o s.report result r → MeansBuild name original s result (left_as s v r)
 means_course name original o s v r result law c line = record {
+  answers = λ files told. answers original s o v r result files line (told_status name original s o v r files c told);
   done = λ is. done name original s o v r law c (so o s r result 0 line is (λ h. omega arith) (λ h. omega arith));
   usage = λ is. never name original s.shelf o v 1 c (λ h. omega arith) (λ h. omega arith) (λ h. omega arith) (λ h. omega arith) (λ h. omega arith) (so o s r result 1 line is (λ h. omega arith) (λ h. omega arith)).status;
   refused = λ is. refused_2 name original s o v r c (so o s r result 2 line is (λ h. omega arith) (λ h. omega arith));

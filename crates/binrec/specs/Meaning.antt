@@ -1,5 +1,5 @@
 -- What the answers of the commands mean, in a user's words.
-use Rattle.std.specs.Prelude.{◌≡◌, ◌⊎◌, ◌<◌, ◌≤◌, ℕ, List, ◌++◌, length, Option, Some, None, IfSome, Ok, Err, IsTrue}
+use Rattle.std.specs.Prelude.{◌≡◌, ◌⊎◌, ◌<◌, ◌≤◌, nat_le, ℕ, List, ◌++◌, length, Option, Some, None, IfSome, Result, Ok, Err, cond, IsTrue}
 use Rattle.std.specs.Option.{option_map}
 use Rattle.br_outside.specs.Files.{Files, put}
 use Rattle.br_outside.specs.Outside.{SameBut}
@@ -43,12 +43,22 @@ pub record IsStored (name original : List ℕ) (files : Files) (t : World) : Typ
 abbrev pub Stores : List ℕ → List ℕ → World → World → Type 0
 Stores name original s t = (files : Files) → s.shelf.files ≡ Some files → IsStored name original files t
 
+abbrev pub read_status : Result Exe Refused → ℕ
+read_status (Ok exe) = 0
+read_status (Err refused) = 2
+
+-- the status of `build N E` by the content of E, where nothing fails and memory is there
+abbrev pub build_status : Option (List ℕ) → ℕ
+build_status None = 3
+build_status (Some content) = cond (nat_le (length content) 16777216) (read_status (elf Original content)) 7
+
 -- What each status of `build N E` means.
 pub record MeansBuild (name original : List ℕ) (s : World) (result : ℕ) (t : World) : Type 0 where
+  pub answers : (files : Files) → s.shelf.files ≡ Some files → (result ≡ 4) ⊎ (HasFailed objects.Shelf s t ⊎ (HasFailed objects.Report s t ⊎ (result ≡ build_status (files original))))
   pub done : result ≡ 0 → (files : Files) → s.shelf.files ≡ Some files → (stored : IsStored name original files t) × Says (built_line 0 5 (length (image stored.exe))) s t
   pub usage : result ≡ 1 → ⊥
   pub refused : result ≡ 2 → Unstored s t × (refused : Refused) × Says (cause_text (RefusedWord 2 refused.number refused.place)) s t
-      × IfSome s.shelf.files (λ files. (content : List ℕ) × (files original ≡ Some content) × (elf Original content ≡ Err refused))
+      × IfSome s.shelf.files (λ files. (content : List ℕ) × (files original ≡ Some content) × ((length content ≤ 16777216) × (elf Original content ≡ Err refused)))
   pub outside : result ≡ 3 → HasFailed objects.Report s t ⊎ Says (object_text objects.Shelf) s t
   pub absent : result ≡ 3 → IsTrue s.shelf.calm → HasFailed objects.Report s t ⊎ (Unstored s t × IfSome s.shelf.files (λ files. files original ≡ None))
   pub memory : result ≡ 4 → Unstored s t ⊎ (HasFailed objects.Shelf s t ⊎ Stores name original s t)
