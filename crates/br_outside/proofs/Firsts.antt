@@ -1,10 +1,10 @@
 -- Pairs of names and contents, the first of a name: a search, a change and a push.
-use Rattle.std.proofs.Common.{◌≡◌, ◌<◌, ◌+◌, ℕ, suc, zero, List, [], ◌∷◌, ◌++◌, length, take, set, get_or, Option, Some, None, Bool, true, false, cond, refl, sym, ap, ◌∙◌, subst, String, Vec, string_bytes, rules, arith}
+use Rattle.std.proofs.Common.{◌≡◌, ◌<◌, ◌+◌, ℕ, suc, zero, List, [], ◌∷◌, ◌++◌, length, take, set, get_or, Option, Some, None, Bool, true, false, cond, refl, sym, ap, ◌∙◌, subst, String, Vec, string_bytes, arith}
 use Rattle.std.specs.Str.{bytes_eq}
 use Rattle.std.proofs.lemmas.List.{get_or_default}
 use Rattle.std.proofs.lemmas.Slice.Eq.{bytes_eq-Decides}
 use Rattle.std.proofs.Math.Path.{fun_ext}
-use Rattle.br_outside.specs.Files.{Files, put, found, IsFirst}
+use Rattle.br_outside.specs.Files.{put, found, IsFirst}
 
 none_along : (b : Bool) (x : List ℕ) (o p : Option (List ℕ)) → (o ≡ None → p ≡ None) → cond b (Some x) o ≡ None → cond b (Some x) p ≡ None
 none_along true x o p f h = h

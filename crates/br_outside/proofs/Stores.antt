@@ -1,11 +1,11 @@
 -- What a store in memory does, as the trait says it.
-use Rattle.std.proofs.Common.{◌≡◌, ◌≤◌, ◌<◌, ◌+◌, ◌-◌, ◌^◌, ℕ, List, Option, Some, None, Bool, true, false, cond, refl, sym, ap, ◌∙◌, subst, Result, Ok, Err, IsTrue, arith, rules}
+use Rattle.std.proofs.Common.{◌≡◌, ◌<◌, ◌^◌, ℕ, List, Some, Bool, true, false, cond, refl, sym, ap, Ok, Err, arith}
 use Rattle.std.specs.Str.{bytes_eq}
 use Rattle.std.proofs.lemmas.Slice.Eq.{bytes_eq-Decides}
 use Rattle.std.proofs.Math.Path.{fun_ext}
 use Rattle.br_outside.specs.Files.{Files, put}
 use Rattle.br_outside.specs.Failing.{risen, after_call}
-use Rattle.br_outside.specs.Outside.{ShelfView, Stored, Rose}
+use Rattle.br_outside.specs.Outside.{Stored}
 use Rattle.br_outside.specs.declared.failing.Failing.{Failing}
 use Rattle.br_outside.specs.declared.errors.StoreError.TheVariants as store_errors
 

@@ -1,5 +1,5 @@
 -- Calls that fail by a list of their numbers.
-use Rattle.std.specs.Prelude.{◌≡◌, ◌≤◌, ◌+◌, ◌-◌, ◌^◌, ℕ, min, Bool, cond, Contains}
+use Rattle.std.specs.Prelude.{◌≤◌, ◌+◌, ◌-◌, ◌^◌, ℕ, min, Bool, cond, Contains}
 use Rattle.br_outside.specs.declared.failing.Failing.{Failing}
 
 -- a count that rises by one, and stands at its greatest value

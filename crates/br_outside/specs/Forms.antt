@@ -1,5 +1,5 @@
 -- What the forms in memory tell of themselves.
-use Rattle.std.specs.Prelude.{◌≡◌, ℕ, List, [], ◌∷◌, drop, Option, Some, None, Result, Ok, Err, Bool, true, false}
+use Rattle.std.specs.Prelude.{ℕ, List, drop, Some, Result, Ok, Err, Bool, true, false}
 use Rattle.br_outside.specs.Files.{Files, found}
 use Rattle.br_outside.specs.Outside.{ShelfView, StreamView}
 use Rattle.br_outside.specs.declared.failing.Failing.{Failing}

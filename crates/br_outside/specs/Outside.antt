@@ -1,7 +1,6 @@
 -- What is seen of the objects of the outside, and what their calls do to it.
-use Rattle.std.specs.Prelude.{◌≡◌, ◌<◌, ◌≤◌, ◌+◌, ◌-◌, ◌^◌, ℕ, min, List, [], ◌∷◌, ◌++◌, length, take, drop, Option, Some, None, IfSome, Result, Ok, Err, Bool, true, false, IsTrue}
+use Rattle.std.specs.Prelude.{◌≡◌, ◌<◌, ◌≤◌, ◌+◌, ◌-◌, ◌^◌, ℕ, min, List, [], ◌++◌, length, take, drop, Option, Some, None, IfSome, Result, Ok, Err, Bool, IsTrue}
 use Rattle.std.specs.Option.{option_map}
-use Rattle.std.specs.Str.{bytes_eq}
 use Rattle.br_outside.specs.Files.{Files, put}
 use Rattle.br_outside.specs.declared.errors.ShelfError.{ShelfError}
 use Rattle.br_outside.specs.declared.errors.ShelfError.TheVariants as shelf_errors

@@ -16,7 +16,7 @@ pub and_right : (a b : Bool) → (a && b) ≡ true → b ≡ true
 and_right true b h = h
 and_right false b h = cc
 
--- the record of two bounds that a covered range has
+-- the bounds of a range that is covered
 pub covers-bounds : (r : Region) (at n : ℕ) → covers r at n ≡ true → (r.start ≤ at) × (at + n ≤ r.start + length r.bytes)
 covers-bounds r at n h = grind (arith, nat_tests)
 

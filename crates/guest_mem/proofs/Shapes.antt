@@ -8,7 +8,7 @@ use Rattle.elf_read.specs.declared.exe.Segment.{Segment}
 use Rattle.elf_read.specs.declared.exe.Exe.{Exe}
 use Rattle.elf_read.specs.Elf.{AreSegments, Ascend, end_of_last, round_up, IsGuest}
 use Rattle.guest_mem.specs.Regions.{region_of, stack_with, stack_region, heap_region, opening_regions}
-use Rattle.guest_mem.specs.Layout.{is_usable, Shape, shape_of, data_at, segment_shape, shapes_of, KeepsCode}
+use Rattle.guest_mem.specs.Layout.{is_usable, Shape, shape_of, data_at, segment_shape, shapes_of, KeepsCode, NoneAt, StartsDiffer}
 use Rattle.guest_mem.proofs.Places.{and_left, and_right, covers-bounds}
 use Rattle.guest_mem.proofs.Numbers.{length-zeros, length-cut, length-put_over}
 use Rattle.guest_mem.proofs.Heaps.{end_of_tail, below_end, end_high, not_equal, equal}
@@ -162,3 +162,24 @@ KeepsCode-shapes exe brk g =
     let high : end_of_last exe.segments ≤ 0xA0000000 = end_high _ exe.segments g.segments in
     let e : exe.brk_start ≡ round_up (end_of_last exe.segments) = g.brk in
     KeepsCode-segments _ 0 exe.brk_start (brk - exe.brk_start) exe.segments g.segments g.order (omega arith) (omega arith)
+
+-- ---- no two regions start at the same address
+
+none_at : (low end at start size : ℕ) (ss : List Segment) → AreSegments low ss → Ascend end ss → at < end → at < start → at < 0xBFF00000 → NoneAt at (map segment_shape ss ++ (data_at 0xBFF00000 1048576 ∷ data_at start size ∷ []))
+none_at low end at start size [] a o e l h = (λ k. omega arith, (λ k. omega arith, tt))
+none_at low end at start size (s ∷ ss) a o e l h =
+    (λ k. omega (arith, o.0), none_at low (s.start + s.size) at start size ss a.1 o.1 (omega (arith, o.0)) l h)
+
+starts_differ : (low end start size : ℕ) (ss : List Segment) → AreSegments low ss → Ascend end ss → end_of_last ss ≤ start → start < 0xBFF00000 → StartsDiffer (map segment_shape ss ++ (data_at 0xBFF00000 1048576 ∷ data_at start size ∷ []))
+starts_differ low end start size [] a o h l = ((λ k. omega arith, tt), (tt, tt))
+starts_differ low end start size (s ∷ ss) a o h l =
+    let e : s.start + s.size ≤ end_of_last (s ∷ ss) = below_end low s ss a.1 o.1 in (
+      none_at low (s.start + s.size) s.start start size ss a.1 o.1 (omega (arith, a.0.some)) (omega (arith, a.0.some)) (omega (arith, a.0.some, a.0.high)),
+      starts_differ low (s.start + s.size) start size ss a.1 o.1 (end_of_tail s ss start h) l,
+    )
+
+pub StartsDiffer-shapes : (exe : Exe) (brk : ℕ) → IsGuest exe → StartsDiffer (shapes_of exe brk)
+StartsDiffer-shapes exe brk g =
+    let high : end_of_last exe.segments ≤ 0xA0000000 = end_high _ exe.segments g.segments in
+    let e : exe.brk_start ≡ round_up (end_of_last exe.segments) = g.brk in
+    starts_differ _ 0 exe.brk_start (brk - exe.brk_start) exe.segments g.segments g.order (omega arith) (omega arith)

@@ -48,3 +48,13 @@ shapes_of exe brk = map segment_shape exe.segments ++ (data_at 0xBFF00000 104857
 abbrev pub KeepsCode : ℕ → List Shape → Type 0
 KeepsCode start [] = Unit {0}
 KeepsCode start (s ∷ ss) = (s.perms.exec ≡ true → (s.perms.write ≡ false) × (s.start ≢ start)) × KeepsCode start ss
+
+-- no region starts at this address
+abbrev pub NoneAt : ℕ → List Shape → Type 0
+NoneAt start [] = Unit {0}
+NoneAt start (s ∷ ss) = (s.start ≢ start) × NoneAt start ss
+
+-- no two regions start at the same address
+abbrev pub StartsDiffer : List Shape → Type 0
+StartsDiffer [] = Unit {0}
+StartsDiffer (s ∷ ss) = NoneAt s.start ss × StartsDiffer ss

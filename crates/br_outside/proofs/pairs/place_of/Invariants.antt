@@ -1,6 +1,5 @@
-use Rattle.std.proofs.Common.{length, take, ◌-◌, ◌≡◌, ◌<◌, ◌≤◌, List, ℕ, Some, None, MatchOption, OnOk, OnErr, ◌+◌, ◌*◌}
-use Rattle.std.specs.Result.{result_map_both}
-use Rattle.br_outside.specs.Files.{Reads, IsFirst, found, put}
+use Rattle.std.proofs.Common.{length, take, ◌-◌, ◌≡◌, ◌≤◌, None}
+use Rattle.br_outside.specs.Files.{found}
 use Rattle.br_outside.proofs.pairs.place_of.Given as goal
 
 abbrev pub invariant-loop-place : goal.invariant-loop-place

@@ -1,4 +1,4 @@
-use Rattle.std.proofs.Common.{◌≡◌, ◌≤◌, ℕ, length, IfOk, ◌+◌, ◌-◌, ◌*◌, ◌<◌}
+use Rattle.std.proofs.Common.{◌≤◌, length}
 use Rattle.br_real.proofs.copying.read_whole.Given as goal
 
 abbrev pub invariant-loop : goal.invariant-loop

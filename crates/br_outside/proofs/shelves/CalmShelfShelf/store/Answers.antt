@@ -1,4 +1,4 @@
-use Rattle.std.proofs.Common.{arith, rules}
+use Rattle.std.proofs.Common.{arith}
 use Rattle.std.proofs.lemmas.Result.{err_from_is_err_and}
 use Rattle.br_outside.proofs.Stores.{kept_store}
 use Rattle.br_outside.proofs.shelves.CalmShelfShelf.store.Goals as goal

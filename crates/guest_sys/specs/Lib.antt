@@ -1,0 +1,4 @@
+pub mod Streams
+pub mod Machine
+pub mod Calls
+pub mod Parts
