@@ -47,7 +47,7 @@ differs_here i xs ys l m n =
 pub disorder_here : (i at : ℕ) (es : List Edge) (last next : Edge) (whole : Option ℕ) → i < length es → next ≡ get_or es i next → before last next ≡ false → disorder_after last at (drop i es) ≡ whole → Some at ≡ whole
 disorder_here i at es last next whole l e f h =
     sym (ap (disorder_after last at) (drop_more es i next l ∙ ap (λ x. x ∷ drop (i + 1) es) (sym e))
-      ∙ ap (λ b. if b then disorder_after next (at + 8) (drop (i + 1) es) else Some at) f) ∙ h
+    ∙ ap (λ b. if b then disorder_after next (at + 8) (drop (i + 1) es) else Some at) f) ∙ h
 
 pub no_disorder : (i at : ℕ) (es : List Edge) (last : Edge) (whole : Option ℕ) → length es ≤ i → disorder_after last at (drop i es) ≡ whole → None ≡ whole
 no_disorder i at es last whole l h = sym (ap (disorder_after last at) (drop_all i es l)) ∙ h

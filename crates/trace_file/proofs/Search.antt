@@ -20,6 +20,7 @@ lower_half es e low high middle d s b l m h =
   where
     i : high ≤ length es
     i = b.inside
+
     go : (k : ℕ) (d2 : Edge) → k < middle + 1 → before (get_or es k d2) e ≡ true
     go k d2 n = elim (cases_lt k middle) [
       | inl lt ↦ before_after (get_or es k d2) (get_or es middle d2) e (in_order es k middle d2 s.order lt (omega arith)) (ap (λ x. before x e) (get_or_default es middle d2 d (omega arith)) ∙ h)
@@ -32,8 +33,10 @@ upper_half es e low high middle d s b l m h =
   where
     i : high ≤ length es
     i = b.inside
+
     here : (d2 : Edge) → before (get_or es middle d2) e ≡ false
     here d2 = ap (λ x. before x e) (get_or_default es middle d2 d (omega arith)) ∙ h
+
     go : (k : ℕ) (d2 : Edge) → middle ≤ k → k < length es → before (get_or es k d2) e ≡ false
     go k d2 n u = elim (cases_lt middle k) [
       | inl lt ↦ elim (cases_Bool (before (get_or es k d2) e)) [
@@ -47,15 +50,18 @@ upper_half es e low high middle d s b l m h =
 pub found_there : (es : List Edge) (e : Edge) (low high : ℕ) (d : Edge) → IsEdges es → IsBetween es e low high → high ≤ low → Contains es e → (low < length es) × (before e (get_or es low d) ≡ false)
 found_there es e low high d s b h (k, l, is) = elim (cases_lt k low) [
   | inl lt ↦ let x = b.below k e lt in let y = ap (λ x. before x e) is ∙ not_before_itself e in cc
-  | inr ge ↦ (omega arith, elim (cases_lt low k) [
-    | inl lt ↦
-      let x : before (get_or es low e) e ≡ true = subst (λ x. before (get_or es low e) x ≡ true) is (in_order es low k e s.order lt l) in
-      let y = b.above low e h (omega arith) in
-      cc
-    | inr le ↦
-      let same : low ≡ k = omega arith in
-      ap (λ x. before e x) (get_or_default es low d e (omega arith) ∙ ap (λ k. get_or es k e) same ∙ is) ∙ not_before_itself e
-  ])
+  | inr ge ↦ (
+    omega arith,
+    elim (cases_lt low k) [
+      | inl lt ↦
+          let x : before (get_or es low e) e ≡ true = subst (λ x. before (get_or es low e) x ≡ true) is (in_order es low k e s.order lt l) in
+          let y = b.above low e h (omega arith) in
+          cc
+      | inr le ↦
+          let same : low ≡ k = omega arith in
+          ap (λ x. before e x) (get_or_default es low d e (omega arith) ∙ ap (λ k. get_or es k e) same ∙ is) ∙ not_before_itself e
+    ],
+  )
 ]
 
 pub there_found : (es : List Edge) (e : Edge) (low high : ℕ) (d : Edge) → IsBetween es e low high → high ≤ low → low < length es → before e (get_or es low d) ≡ false → Contains es e
@@ -73,11 +79,13 @@ Decided b p = (IsTrue b → p) × (p → IsTrue b)
 
 -- what the search answers, where it ends at an edge and where it ends past the last
 pub answer_there : (es now : List Edge) (e : Edge) (low high : ℕ) (d : Edge) (b : Bool) → IsEdges es → IsBetween es e low high → high ≤ low → low < length es → es ≡ now → d ≡ get_or es low d → b ≡ before e d → Decided (not b) (Contains now e)
-answer_there es now e low high d b s i h l same is y =
-    (λ t. subst (λ xs. Contains xs e) same (there_found es e low high d i h l (ap (before e) (sym is) ∙ sym y ∙ not_inv b t)),
-     λ c. ap not (y ∙ ap (before e) is ∙ (found_there es e low high d s i h (subst (λ xs. Contains xs e) (sym same) c)).1))
+answer_there es now e low high d b s i h l same is y = (
+  λ t. subst (λ xs. Contains xs e) same (there_found es e low high d i h l (ap (before e) (sym is) ∙ sym y ∙ not_inv b t)),
+  λ c. ap not (y ∙ ap (before e) is ∙ (found_there es e low high d s i h (subst (λ xs. Contains xs e) (sym same) c)).1),
+)
 
 pub answer_none : (es now : List Edge) (e : Edge) (low high count : ℕ) → IsEdges es → IsBetween es e low high → high ≤ low → count ≡ length es → count ≤ low → es ≡ now → Decided (nat_lt low count) (Contains now e)
-answer_none es now e low high count s i h n l same =
-    (λ t. absurd (let m = ltb-true low count t in omega arith),
-     λ c. absurd (let f = (found_there es e low high e s i h (subst (λ xs. Contains xs e) (sym same) c)).0 in omega arith))
+answer_none es now e low high count s i h n l same = (
+  λ t. absurd (let m = ltb-true low count t in omega arith),
+  λ c. absurd (let f = (found_there es e low high e s i h (subst (λ xs. Contains xs e) (sym same) c)).0 in omega arith),
+)

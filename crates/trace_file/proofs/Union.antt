@@ -60,12 +60,15 @@ to_step a e es rest h (b ∷ bs) c = go (to_step a e es rest h bs) (before a b) 
     first : (cs : List Edge) → Either (a ∷ es) cs e → Contains (a ∷ rest cs) e
     first cs (inl c) = elim (first_or_later a e es c) [ inl s ↦ at_first a e (rest cs) s | inr r ↦ there a e (rest cs) (h cs (inl r)) ]
     first cs (inr c) = there a e (rest cs) (h cs (inr c))
+
     second : (Either (a ∷ es) bs e → Contains (step a rest bs) e) → Either (a ∷ es) (b ∷ bs) e → Contains (b ∷ step a rest bs) e
     second later (inl c) = there b e (step a rest bs) (later (inl c))
     second later (inr c) = elim (first_or_later b e bs c) [ inl s ↦ at_first b e (step a rest bs) s | inr r ↦ there b e (step a rest bs) (later (inr r)) ]
+
     both : a ≡ b → Either (a ∷ es) (b ∷ bs) e → Contains (a ∷ rest bs) e
     both s (inl c) = first bs (inl c)
     both s (inr c) = elim (first_or_later b e bs c) [ inl t ↦ at_first a e (rest bs) (s ∙ t) | inr r ↦ first bs (inr r) ]
+
     go : (Either (a ∷ es) bs e → Contains (step a rest bs) e) → (p : Bool) → before a b ≡ p → (q : Bool) → before b a ≡ q → Contains (if p then (a ∷ rest (b ∷ bs)) else (if q then (b ∷ step a rest bs) else (a ∷ rest bs))) e
     go later true _ q _ = first (b ∷ bs) c
     go later false _ true _ = second later c
@@ -87,6 +90,7 @@ step_after a es rest k c (b ∷ bs) l h g = go (λ y. step_after a es rest k b b
   where
     p : (before c b ≡ true) × (ascends_after b bs ≡ true)
     p = and_inv (before c b) (ascends_after b bs) g
+
     go : (before b a ≡ true → ascends_after b (step a rest bs) ≡ true) → (t : Bool) → before a b ≡ t → (u : Bool) → before b a ≡ u → ascends_after c (if t then (a ∷ rest (b ∷ bs)) else (if u then (b ∷ step a rest bs) else (a ∷ rest bs))) ≡ true
     go later true y u _ = and_both (before c a) (ascends_after a (rest (b ∷ bs))) l (k a (b ∷ bs) h (and_both (before a b) (ascends_after b bs) y p.1))
     go later false _ true y = and_both (before c b) (ascends_after b (step a rest bs)) p.0 (later y)

@@ -5,8 +5,8 @@ ghost use Rattle.trace_file.specs.Reads.{Says};
 
 use crate::error::TraceError;
 use crate::field::{
-    COUNT_PLACE, DIGEST_PLACE, MAGIC, MOST_RECORDS, RECORD_SIZE, RECORDS_PLACE, read_digest,
-    read_record, read_word,
+    COUNT_PLACE, MAGIC, MOST_RECORDS, RECORD_SIZE, RECORDS_PLACE, read_digest, read_record,
+    read_word,
 };
 use crate::order::is_before;
 

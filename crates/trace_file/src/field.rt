@@ -43,7 +43,7 @@ pub fn read_digest(bytes: &[u8]) -> [u8; 32]
     ensures { result ≡ stored_digest bytes.now }
 {
     let mut found = [0; 32];
-    found.copy_from_slice(&bytes[8..40]);
+    found.copy_from_slice(&bytes[DIGEST_PLACE as usize..COUNT_PLACE as usize]);
     found
 }
 

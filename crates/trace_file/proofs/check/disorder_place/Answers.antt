@@ -7,7 +7,7 @@ pub returns-then-not-is_before : goal.returns-then-not-is_before
 returns-then-not-is_before c =
     let n = length_records (count_of c.args.bytes.now) 44 c.args.bytes.now in
     disorder_here c.loop-i.i (44 + 8 * c.loop-i.i) (records_of c.args.bytes.now) c.loop-i.last c.read_record-next.result _ (omega arith)
-      c.read_record-next.ensures (sym c.is_before.ensures ∙ c.if-not-is_before.true) c.loop-i.invariant
+    c.read_record-next.ensures (sym c.is_before.ensures ∙ c.if-not-is_before.true) c.loop-i.invariant
 
 pub returns : goal.returns
 returns c =

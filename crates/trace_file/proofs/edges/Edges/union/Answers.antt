@@ -13,15 +13,16 @@ the_list c =
 edges : (c : goal.In_ok-list) → IsEdges c.in_ok-list.list.items
 edges c =
     subst IsEdges (sym (the_list c)) (merge_edges c.args.self.now c.args.other.now
-      (subst IsEdges c.self.view_is c.self.invariant) (subst IsEdges c.other.view_is c.other.invariant) c.requires)
+    (subst IsEdges c.self.view_is c.self.invariant) (subst IsEdges c.other.view_is c.other.invariant) c.requires)
 
 pub invariant_of-result : goal.invariant_of-result
 invariant_of-result c = edges c
 
 pub returns-clause-members : goal.returns-clause-members
-returns-clause-members c e =
-    (λ m. from_merge e c.args.self.now c.args.other.now (subst (λ l. Contains l e) (the_list c) m),
-     λ m. subst (λ l. Contains l e) (sym (the_list c)) (to_merge e c.args.self.now c.args.other.now m))
+returns-clause-members c e = (
+  λ m. from_merge e c.args.self.now c.args.other.now (subst (λ l. Contains l e) (the_list c) m),
+  λ m. subst (λ l. Contains l e) (sym (the_list c)) (to_merge e c.args.self.now c.args.other.now m),
+)
 
 pub returns-clause-edges : goal.returns-clause-edges
 returns-clause-edges c = edges c
