@@ -16,3 +16,6 @@ pub use code::{exec_bytes, in_exec};
 pub use error::ElfError;
 pub use exe::{Bytes, Exe, Reach, Segment, Segments};
 pub use read::read_elf;
+
+#[cfg(test)]
+mod tests;

@@ -93,7 +93,7 @@ headers_read low at place (s ∷ ss) rest h f =
     let e = end_bound at s b in
     let f2 : end_after at s + 4096 * length ss + sizes ss ≤ 2 ^ 31 = omega arith in
     ap (λ x. x ∷ headers (length ss) (place + 32) (drop 32 (program_header at s more)))
-    (head_read at place s more ∙ same_make place 1 _ _ _ _ _ _ _ _ _ _ (number_again 4 _ (offset_bound at s f1)) (number_again 4 _ n1) (number_again 4 _ n2) (number_again 4 _ n3) (number_again 4 _ n4))
+    (head_read at place s more ∙ same_make place 1 1 _ _ _ _ _ _ _ _ _ _ refl (number_again 4 _ (offset_bound at s f1)) (number_again 4 _ n1) (number_again 4 _ n2) (number_again 4 _ n3) (number_again 4 _ n4))
     ∙ ap (λ bytes. make place 1 (offset_of at s) s.start (length s.bytes) s.size (flags_of_perms s.perms) ∷ headers (length ss) (place + 32) bytes) (head_passed at s more)
     ∙ ap (λ hs. make place 1 (offset_of at s) s.start (length s.bytes) s.size (flags_of_perms s.perms) ∷ hs) (headers_read low (end_after at s) (place + 32) ss rest h.1 f2)
 

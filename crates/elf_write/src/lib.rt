@@ -8,3 +8,6 @@ mod piece;
 
 pub use file::{write_elf, write_joined};
 pub use law::read_back;
+
+#[cfg(test)]
+mod tests;

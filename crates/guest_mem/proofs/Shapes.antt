@@ -173,9 +173,10 @@ none_at low end at start size (s ∷ ss) a o e l h =
 starts_differ : (low end start size : ℕ) (ss : List Segment) → AreSegments low ss → Ascend end ss → end_of_last ss ≤ start → start < 0xBFF00000 → StartsDiffer (map segment_shape ss ++ (data_at 0xBFF00000 1048576 ∷ data_at start size ∷ []))
 starts_differ low end start size [] a o h l = ((λ k. omega arith, tt), (tt, tt))
 starts_differ low end start size (s ∷ ss) a o h l =
-    let e : s.start + s.size ≤ end_of_last (s ∷ ss) = below_end low s ss a.1 o.1 in
-    ( none_at low (s.start + s.size) s.start start size ss a.1 o.1 (omega (arith, a.0.some)) (omega (arith, a.0.some)) (omega (arith, a.0.some, a.0.high))
-    , starts_differ low (s.start + s.size) start size ss a.1 o.1 (end_of_tail s ss start h) l )
+    let e : s.start + s.size ≤ end_of_last (s ∷ ss) = below_end low s ss a.1 o.1 in (
+      none_at low (s.start + s.size) s.start start size ss a.1 o.1 (omega (arith, a.0.some)) (omega (arith, a.0.some)) (omega (arith, a.0.some, a.0.high)),
+      starts_differ low (s.start + s.size) start size ss a.1 o.1 (end_of_tail s ss start h) l,
+    )
 
 pub StartsDiffer-shapes : (exe : Exe) (brk : ℕ) → IsGuest exe → StartsDiffer (shapes_of exe brk)
 StartsDiffer-shapes exe brk g =

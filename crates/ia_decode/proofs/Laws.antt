@@ -11,13 +11,13 @@ use Rattle.ia_decode.proofs.Steps.{IsBytes, bind_some, some, some_is, none_is}
 use Rattle.ia_decode.proofs.Again.{row_again}
 use Rattle.ia_decode.proofs.Rows.{inst_found}
 
-taken : (m rest : List ℕ) → length (m ++ rest) - length rest ≡ length m
+pub taken : (m rest : List ℕ) → length (m ++ rest) - length rest ≡ length m
 taken m rest = omega (arith, length-append m rest)
 
-not_long : (n : ℕ) → n ≤ 15 → nat_lt 15 n ≡ false
+pub not_long : (n : ℕ) → n ≤ 15 → nat_lt 15 n ≡ false
 not_long n h = grind (arith, nat_tests)
 
-long_not : (n : ℕ) → nat_lt 15 n ≡ false → n ≤ 15
+pub long_not : (n : ℕ) → nat_lt 15 n ≡ false → n ≤ 15
 long_not n h = grind (arith, nat_tests)
 
 pub decode_again : (bytes rest : List ℕ) (i : Inst) → Spells bytes i → decode_of (bytes ++ rest) ≡ Some (i, length bytes)

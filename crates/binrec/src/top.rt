@@ -1,0 +1,90 @@
+//! The top call.
+ghost use Rattle.std.specs.Prelude.{◌≡◌, ℕ, List, Ok, map, string_bytes};
+ghost use Rattle.binrec.specs.Plans.World.{World, on_shelf, world};
+ghost use Rattle.binrec.specs.Plans.Plan.{Went};
+ghost use Rattle.binrec.specs.Plans.Happened.{Happened};
+ghost use Rattle.binrec.specs.Plans.Told.{IsExact, IsComplete, HasCause};
+ghost use Rattle.binrec.specs.Words.{Builds, command};
+ghost use Rattle.binrec.specs.Commands.{plan, end_of};
+ghost use Rattle.binrec.specs.Meaning.{MeansBuild, MeansUsage};
+
+use crate::acts::report::{tell, tell_stop};
+use crate::acts::stop::{Cause, Outcome, Stop};
+use crate::commands::build::build_command;
+use crate::words::{Command, read_words};
+use br_outside::{Shelf, Sink, Source};
+use build_core::image_law;
+use std::alloc::Global;
+
+/// The status of a command, with which the program ends.
+#[derive(Clone, Copy, Debug, PartialEq, Eq)]
+pub struct Status(pub u8);
+
+/// The work of the command, before the report line.
+fn work<F: Shelf>(alloc: Global, words: &[String], shelf: &mut F) -> Result<Outcome, Stop>
+    ensures { (w : World) → Went (plan (map string_bytes words.now)) (on_shelf w (F.seen shelf.old)) (end_of result) (on_shelf w (F.seen shelf.new)) }
+{
+    match read_words(words) {
+        Ok(Command::Build(image, original)) => build_command(alloc, shelf, image, original),
+        Err(at) => Err(Stop::Because(Cause::Usage(at))),
+    }
+}
+
+/// Does what the words after the program's name ask for, and answers its status.
+///
+/// `build N E` fetches E, of at most 16777216 bytes, and stores as N a file that does what E does.
+/// It takes nothing of the input and prints nothing on `out`. A name is a text of 1 to 4096 bytes.
+///
+/// The last call gives the report line:
+///
+/// | Status | When | Line |
+/// |---|---|---|
+/// | 0 | all was done | `built 0 5 L`, L the length of N in bytes |
+/// | 1 | the words are no command | `usage W`, W the position of the first wrong word, from 0, or the number of words where one is missing |
+/// | 2 | E is refused as an original | `refused word 2 K P`, with the refusal's number and its place in E |
+/// | 3 | a call of the shelf failed, or the report line could not be given | `outside shelf` |
+/// | 4 | want of memory | `memory` |
+/// | 7 | E is too long | `limit file 16777216` |
+///
+/// The first cause in the order of the work decides, but a report line that cannot be given makes
+/// the status 3, or 4 where the sink wants memory, in place of any other. After 1, 2 and 7 nothing is
+/// stored. After 4 the file may be stored, and after 3 where the report failed; where the store
+/// itself failed, what N holds is not known. No other name changes.
+///
+/// The clauses: `happened`, the calls made are those of the command's plan and no others; `exact`
+/// and `complete`, over objects that tell what they hold the answer is the expected one, unless memory
+/// is wanting or an object fails; `cause`, status 3 names an object whose count rose; `usage` and
+/// `build`, what the statuses mean.
+pub fn binrec<F: Shelf, I: Source, O: Sink, R: Sink>(
+    alloc: Global,
+    words: &[String],
+    shelf: &mut F,
+    input: &mut I,
+    out: &mut O,
+    report: &mut R,
+) -> Status
+    ensures happened { Happened (plan (map string_bytes words.now))
+        (world (F.seen shelf.old) (I.seen input.old) (O.seen out.old) (R.seen report.old)) result.0
+        (world (F.seen shelf.new) (I.seen input.new) (O.seen out.new) (R.seen report.new)) }
+    ensures exact { IsExact (plan (map string_bytes words.now))
+        (world (F.seen shelf.old) (I.seen input.old) (O.seen out.old) (R.seen report.old)) result.0
+        (world (F.seen shelf.new) (I.seen input.new) (O.seen out.new) (R.seen report.new)) }
+    ensures complete { IsComplete (plan (map string_bytes words.now))
+        (world (F.seen shelf.old) (I.seen input.old) (O.seen out.old) (R.seen report.old)) result.0
+        (world (F.seen shelf.new) (I.seen input.new) (O.seen out.new) (R.seen report.new)) }
+    ensures cause { HasCause
+        (world (F.seen shelf.old) (I.seen input.old) (O.seen out.old) (R.seen report.old)) result.0
+        (world (F.seen shelf.new) (I.seen input.new) (O.seen out.new) (R.seen report.new)) }
+    ensures usage { MeansUsage (map string_bytes words.now)
+        (world (F.seen shelf.old) (I.seen input.old) (O.seen out.old) (R.seen report.old)) result.0
+        (world (F.seen shelf.new) (I.seen input.new) (O.seen out.new) (R.seen report.new)) }
+    ensures build { (name original : List ℕ) → command (map string_bytes words.now) ≡ Ok (Builds name original) → MeansBuild name original
+        (world (F.seen shelf.old) (I.seen input.old) (O.seen out.old) (R.seen report.old)) result.0
+        (world (F.seen shelf.new) (I.seen input.new) (O.seen out.new) (R.seen report.new)) }
+{
+    image_law();
+    match work(alloc, words, shelf) {
+        Ok(outcome) => Status(tell(report, outcome.line.as_bytes(), outcome.finish.status())),
+        Err(stop) => Status(tell_stop(alloc, report, stop)),
+    }
+}
