@@ -69,6 +69,7 @@ impl Guest {
     /// The guest of an executable that is given these words: it stands at the entry, and its stack has
     /// the argument `guest` and the words (System V ABI, i386 supplement, process initialization). The
     /// only error is for want of memory.
+    #[tactic(auto, using(crate::proofs::Openings::room))]
     pub fn of(alloc: Global, exe: &Exe, args: &[String]) -> Result<Guest, AllocError>
         requires exe { IsGuest exe.now }
         requires args { FitArguments (map string_bytes args.now) }

@@ -1,5 +1,5 @@
 //! The stack with which a guest begins (System V ABI, i386 supplement, process initialization).
-ghost use Rattle.std.specs.Prelude.{◌≡◌, ◌+◌, ◌<◌, ◌≤◌, ◌^◌, ◌++◌, length, map, string_bytes, IfOk, OnOk};
+ghost use Rattle.std.specs.Prelude.{◌≡◌, ◌+◌, ◌<◌, ◌^◌, ◌++◌, length, map, string_bytes, IfOk, OnOk};
 ghost use Rattle.br_word.specs.Memory.{bytes_of, zeros};
 ghost use Rattle.guest_run.specs.Opening.{FitArguments, arguments, texts, text_places, first_text, stack_pointer, stack_top};
 
@@ -78,8 +78,7 @@ pub fn stack_pointer(args: &[String]) -> u32
 /// The only error is for want of memory.
 pub fn stack_top(alloc: Global, args: &[String]) -> Result<Vec<u8>, AllocError>
     requires { FitArguments (map string_bytes args.now) }
-    ensures bytes { IfOk result (λ top. top.items ≡ stack_top (arguments (map string_bytes args.now))) }
-    ensures room { IfOk result (λ top. length top.items ≤ 1048576) }
+    ensures { IfOk result (λ top. top.items ≡ stack_top (arguments (map string_bytes args.now))) }
 {
     let count = args.len() as u32 + 1;
     let first = first_text(args);
