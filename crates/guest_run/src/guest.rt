@@ -204,3 +204,6 @@ impl Guest {
         Ok(self.stop)
     }
 }
+
+#[cfg(test)]
+mod tests;
