@@ -25,7 +25,7 @@ fn guest(alloc: Global) -> Result<Exe, AllocError>
             write: true,
             exec: false,
         },
-        bytes: Bytes::of(vec![in alloc; 1, 2, 3, 4]?),
+        bytes: Bytes::of(Vec::new(alloc)),
     })?;
     Ok(Exe {
         entry: DATA,
@@ -213,6 +213,8 @@ fn memory_and_faults(rt: HostRuntime) -> Result<(), Fail> {
         index: None,
         disp: 0,
     });
+
+    assert!(rt; memory.store(DATA, Width::B32, 0x0403_0201));
 
     // the destination takes the stack pointer as it is afterwards
     let mut cpu = processor([0, 0, 0, 0, DATA, 0, 0, 0], 0);
