@@ -12,3 +12,6 @@ pub use arguments::args_fit;
 pub use guest::Guest;
 pub use guest_sys::SysError;
 pub use stop::Stop;
+
+#[cfg(test)]
+mod tests;
