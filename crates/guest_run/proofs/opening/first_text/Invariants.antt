@@ -1,4 +1,4 @@
-use Rattle.std.proofs.Common.{◌≡◌, ◌+◌, ◌≤◌, length, map, drop, string_bytes}
+use Rattle.std.proofs.Common.{◌≡◌, ◌+◌, length, map, drop, string_bytes}
 use Rattle.guest_run.specs.Opening.{texts, arguments}
 use Rattle.guest_run.proofs.opening.first_text.Given as goal
 
