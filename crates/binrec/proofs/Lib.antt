@@ -1,0 +1,5 @@
+pub mod Plans
+pub mod Ends
+pub mod Courses
+pub mod Meanings
+pub mod Tops

@@ -1,0 +1,100 @@
+use Rattle.std.proofs.Common.{◌≡◌, ◌⊎◌, ◌<◌, ◌≤◌, ◌+◌, ◌-◌, ◌^◌, nat_le, min, ℕ, List, [], ◌∷◌, ◌++◌, length, take, drop, Option, Some, None, Result, Ok, Err, cond, Bool, true, false, IsTrue, IfSome, IsErrAnd, refl, sym, ◌∙◌, ap, subst, inl, inr, arith, append_assoc}
+use Rattle.std.specs.Option.{option_map}
+use Rattle.std.proofs.lemmas.List.{append-nil}
+use Rattle.std.proofs.lemmas.Bool.{le-leb, lt-leb, cond-true, cond-false}
+use Rattle.br_outside.specs.Files.{Files, put}
+use Rattle.br_outside.specs.Outside.{ShelfView, StreamView, Rose, Fetched, Stored, Gave}
+use Rattle.br_outside.specs.declared.errors.ShelfError.{ShelfError}
+use Rattle.br_outside.specs.declared.errors.ShelfError.TheVariants as shelf_errors
+use Rattle.br_outside.specs.declared.errors.StoreError.{StoreError}
+use Rattle.br_outside.specs.declared.errors.StoreError.TheVariants as store_errors
+use Rattle.br_outside.specs.declared.errors.SinkError.{SinkError}
+use Rattle.br_outside.specs.declared.errors.SinkError.TheVariants as sink_errors
+use Rattle.binrec.specs.Plans.World.{World, on_shelf, on_input, on_out, on_report, faults_of, calm_of}
+use Rattle.binrec.specs.Plans.Plan.{Plan, Ends, Fetches, Stores, Prints, Reports, Reads, ReadError, ReadFailed, ReadMemory, Read, Went, Run, RunsOut, Fails, AfterFetch, AfterStore, AfterGive, AfterRead, planned_end}
+use Rattle.binrec.specs.Plans.Texts.{Finished, End, end_text, end_status, object_text, finish_status, cause_status}
+use Rattle.binrec.specs.declared.acts.stop.Stop.{Stop}
+use Rattle.binrec.specs.declared.acts.stop.Stop.TheVariants.{Because, Outside, Memory}
+use Rattle.binrec.specs.declared.acts.stop.Cause.{Cause}
+use Rattle.binrec.specs.declared.acts.stop.Cause.TheVariants.{Usage, RefusedWord, Limited}
+use Rattle.binrec.specs.declared.acts.stop.Finish.TheVariants as finishes
+use Rattle.binrec.specs.declared.acts.stop.Object.{Object}
+use Rattle.binrec.specs.declared.acts.stop.Object.TheVariants as objects
+use Rattle.binrec.specs.declared.acts.stop.Limit.TheVariants as limits
+use Rattle.binrec.proofs.Plans.Steps.{IsKept, same_kept, then_kept, shelf_kept, input_kept, out_kept, report_kept, rises, no_fault}
+
+-- a step to where the run ends
+kept_at : (s m t : World) → IsKept s m → t ≡ m → IsKept s t
+kept_at s m t kept same = let P : World → Type 0 = λ t. IsKept s t in subst P (sym same) kept
+
+-- no count falls, who is calm stays calm, and what is reported grows
+pub kept : (p : Plan) (s : World) (o : End) (t : World) → Went p s o t → IsKept s t
+unfolding Went
+kept (Ends end) s o t (inl out) = same_kept s t out.1
+kept (Ends end) s o t (inr (is, same)) = same_kept s t same
+kept (Fetches name limit next) s o t (inl out) = same_kept s t out.1
+kept (Fetches name limit next) s o t (inr (v, Ok bytes, was, went)) = then_kept s (on_shelf s v) t (shelf_kept s v was.later was.calm) (kept (next bytes) (on_shelf s v) o t went)
+kept (Fetches name limit next) s o t (inr (v, Err shelf_errors.Failed, was, went)) = kept_at s (on_shelf s v) t (shelf_kept s v was.later was.calm) went.1
+kept (Fetches name limit next) s o t (inr (v, Err shelf_errors.TooLong, was, went)) = kept_at s (on_shelf s v) t (shelf_kept s v was.later was.calm) went.1
+kept (Fetches name limit next) s o t (inr (v, Err shelf_errors.Memory, was, went)) = kept_at s (on_shelf s v) t (shelf_kept s v was.later was.calm) went.1
+kept (Stores name bytes next) s o t (inl out) = same_kept s t out.1
+kept (Stores name bytes next) s o t (inr (v, Ok u, was, went)) = then_kept s (on_shelf s v) t (shelf_kept s v was.later was.calm) (kept next (on_shelf s v) o t went)
+kept (Stores name bytes next) s o t (inr (v, Err store_errors.Failed, was, went)) = kept_at s (on_shelf s v) t (shelf_kept s v was.later was.calm) went.1
+kept (Stores name bytes next) s o t (inr (v, Err store_errors.Memory, was, went)) = kept_at s (on_shelf s v) t (shelf_kept s v was.later was.calm) went.1
+kept (Prints text next) s o t (inl out) = same_kept s t out.1
+kept (Prints text next) s o t (inr (v, Ok u, was, went)) = then_kept s (on_out s v) t (out_kept s v was.later was.calm) (kept next (on_out s v) o t went)
+kept (Prints text next) s o t (inr (v, Err sink_errors.Failed, was, went)) = kept_at s (on_out s v) t (out_kept s v was.later was.calm) went.1
+kept (Prints text next) s o t (inr (v, Err sink_errors.Memory, was, went)) = kept_at s (on_out s v) t (out_kept s v was.later was.calm) went.1
+kept (Reports text next) s o t (inl out) = same_kept s t out.1
+kept (Reports text next) s o t (inr (v, Ok u, was, went)) = then_kept s (on_report s v) t (report_kept s v text (Ok u) was) (kept next (on_report s v) o t went)
+kept (Reports text next) s o t (inr (v, Err sink_errors.Failed, was, went)) = kept_at s (on_report s v) t (report_kept s v text (Err sink_errors.Failed) was) went.1
+kept (Reports text next) s o t (inr (v, Err sink_errors.Memory, was, went)) = kept_at s (on_report s v) t (report_kept s v text (Err sink_errors.Memory) was) went.1
+kept (Reads most next) s o t (inl out) = same_kept s t out.1
+kept (Reads most next) s o t (inr (v, Ok bytes, was, went)) = then_kept s (on_input s v) t (input_kept s v was.later was.calm) (kept (next bytes) (on_input s v) o t went)
+kept (Reads most next) s o t (inr (v, Err ReadFailed, was, went)) = kept_at s (on_input s v) t (input_kept s v was.later was.calm) went.1
+kept (Reads most next) s o t (inr (v, Err ReadMemory, was, went)) = kept_at s (on_input s v) t (input_kept s v was.later was.calm) went.1
+
+-- the count of this object rose, after a step or at the end
+abbrev pub Risen : Object → World → World → Type 0
+Risen x s t = Rose (faults_of x s) (faults_of x t)
+
+pub risen_later : (x : Object) (s m t : World) → IsKept s m → Risen x m t → Risen x s t
+risen_later x s m t kept rose = rises (faults_of x s) (faults_of x m) (faults_of x t) (kept.later x) rose
+
+pub risen_still : (x : Object) (s m t : World) → IsKept m t → Risen x s m → Risen x s t
+risen_still x s m t kept rose = omega (arith, rose, kept.later x)
+
+-- the call of y failed, and so the end names y
+named : (x y : Object) (s m : World) (o : End) (t : World) → o ≡ Err (Outside x) → Fails y m o t → Risen y s m → Risen x s t
+named x y s m o t is fails rose =
+    let same : y ≡ x = (let e : o ≡ Err (Outside y) = fails.0 in cc) in
+    let P : World → Type 0 = λ t. Risen x s t in
+    let Q : Object → Type 0 = λ y. Risen y s m in
+    subst P (sym fails.1) (subst Q same rose)
+
+-- An end that names an object comes only where its count rose.
+pub caused : (p : Plan) (s : World) (o : End) (t : World) (x : Object) → o ≡ Err (Outside x) → Went p s o t → Risen x s t
+unfolding Went
+caused (Ends end) s o t x is (inl out) = let m : o ≡ Err Memory = out.0 in cc
+caused (Ends end) s o t x is (inr (e, same)) = absurd (no_fault end o x e is)
+caused (Fetches name limit next) s o t x is (inl out) = let m : o ≡ Err Memory = out.0 in cc
+caused (Fetches name limit next) s o t x is (inr (v, Ok bytes, was, went)) = risen_later x s (on_shelf s v) t (shelf_kept s v was.later was.calm) (caused (next bytes) (on_shelf s v) o t x is went)
+caused (Fetches name limit next) s o t x is (inr (v, Err shelf_errors.Failed, was, went)) = named x objects.Shelf s (on_shelf s v) o t is went was.gives.0
+caused (Fetches name limit next) s o t x is (inr (v, Err shelf_errors.TooLong, was, went)) = let m : o ≡ Err (Because (Limited (limits.File limit))) = went.0 in cc
+caused (Fetches name limit next) s o t x is (inr (v, Err shelf_errors.Memory, was, went)) = let m : o ≡ Err Memory = went.0 in cc
+caused (Stores name bytes next) s o t x is (inl out) = let m : o ≡ Err Memory = out.0 in cc
+caused (Stores name bytes next) s o t x is (inr (v, Ok u, was, went)) = risen_later x s (on_shelf s v) t (shelf_kept s v was.later was.calm) (caused next (on_shelf s v) o t x is went)
+caused (Stores name bytes next) s o t x is (inr (v, Err store_errors.Failed, was, went)) = named x objects.Shelf s (on_shelf s v) o t is went was.gives.1
+caused (Stores name bytes next) s o t x is (inr (v, Err store_errors.Memory, was, went)) = let m : o ≡ Err Memory = went.0 in cc
+caused (Prints text next) s o t x is (inl out) = let m : o ≡ Err Memory = out.0 in cc
+caused (Prints text next) s o t x is (inr (v, Ok u, was, went)) = risen_later x s (on_out s v) t (out_kept s v was.later was.calm) (caused next (on_out s v) o t x is went)
+caused (Prints text next) s o t x is (inr (v, Err sink_errors.Failed, was, went)) = named x objects.Output s (on_out s v) o t is went was.gives.1
+caused (Prints text next) s o t x is (inr (v, Err sink_errors.Memory, was, went)) = let m : o ≡ Err Memory = went.0 in cc
+caused (Reports text next) s o t x is (inl out) = let m : o ≡ Err Memory = out.0 in cc
+caused (Reports text next) s o t x is (inr (v, Ok u, was, went)) = risen_later x s (on_report s v) t (report_kept s v text (Ok u) was) (caused next (on_report s v) o t x is went)
+caused (Reports text next) s o t x is (inr (v, Err sink_errors.Failed, was, went)) = named x objects.Report s (on_report s v) o t is went was.gives.1
+caused (Reports text next) s o t x is (inr (v, Err sink_errors.Memory, was, went)) = let m : o ≡ Err Memory = went.0 in cc
+caused (Reads most next) s o t x is (inl out) = let m : o ≡ Err Memory = out.0 in cc
+caused (Reads most next) s o t x is (inr (v, Ok bytes, was, went)) = risen_later x s (on_input s v) t (input_kept s v was.later was.calm) (caused (next bytes) (on_input s v) o t x is went)
+caused (Reads most next) s o t x is (inr (v, Err ReadFailed, was, went)) = named x objects.Input s (on_input s v) o t is went was.gives.1
+caused (Reads most next) s o t x is (inr (v, Err ReadMemory, was, went)) = let m : o ≡ Err Memory = went.0 in cc

@@ -1,0 +1,84 @@
+use Rattle.std.proofs.Common.{◌≡◌, ◌⊎◌, ◌<◌, ◌≤◌, ◌+◌, ◌-◌, ◌^◌, nat_le, min, ℕ, List, [], ◌∷◌, ◌++◌, length, take, drop, Option, Some, None, Result, Ok, Err, cond, Bool, true, false, IsTrue, IfSome, IsErrAnd, refl, sym, ◌∙◌, ap, subst, inl, inr, arith, append_assoc}
+use Rattle.std.specs.Option.{option_map}
+use Rattle.std.proofs.lemmas.List.{append-nil}
+use Rattle.std.proofs.lemmas.Bool.{le-leb, lt-leb, cond-true, cond-false}
+use Rattle.br_outside.specs.Files.{Files, put}
+use Rattle.br_outside.specs.Outside.{ShelfView, StreamView, Rose, Fetched, Stored, Gave}
+use Rattle.br_outside.specs.declared.errors.ShelfError.{ShelfError}
+use Rattle.br_outside.specs.declared.errors.ShelfError.TheVariants as shelf_errors
+use Rattle.br_outside.specs.declared.errors.StoreError.{StoreError}
+use Rattle.br_outside.specs.declared.errors.StoreError.TheVariants as store_errors
+use Rattle.br_outside.specs.declared.errors.SinkError.{SinkError}
+use Rattle.br_outside.specs.declared.errors.SinkError.TheVariants as sink_errors
+use Rattle.binrec.specs.Plans.World.{World, on_shelf, on_input, on_out, on_report, faults_of, calm_of}
+use Rattle.binrec.specs.Plans.Plan.{Plan, Ends, Fetches, Stores, Prints, Reports, Reads, ReadError, ReadFailed, ReadMemory, Read, Went, Run, RunsOut, Fails, AfterFetch, AfterStore, AfterGive, AfterRead, planned_end}
+use Rattle.binrec.specs.Plans.Texts.{Finished, End, end_text, end_status, object_text, finish_status, cause_status}
+use Rattle.binrec.specs.declared.acts.stop.Stop.{Stop}
+use Rattle.binrec.specs.declared.acts.stop.Stop.TheVariants.{Because, Outside, Memory}
+use Rattle.binrec.specs.declared.acts.stop.Cause.{Cause}
+use Rattle.binrec.specs.declared.acts.stop.Cause.TheVariants.{Usage, RefusedWord, Limited}
+use Rattle.binrec.specs.declared.acts.stop.Finish.TheVariants as finishes
+use Rattle.binrec.specs.declared.acts.stop.Object.{Object}
+use Rattle.binrec.specs.declared.acts.stop.Object.TheVariants as objects
+use Rattle.binrec.specs.declared.acts.stop.Limit.TheVariants as limits
+use Rattle.binrec.specs.Plans.Parts.{checked, Checks, ChecksErr, Goes}
+use Rattle.std.proofs.lemmas.Result.{err_from_is_err_and}
+
+-- a call was made, and what follows goes on from there
+pub fetched : (name : List ℕ) (limit : ℕ) (next : List ℕ → Plan) (s : World) (v : ShelfView) (answer : Result (List ℕ) ShelfError) (o : End) (t : World) → Fetched name limit answer s.shelf v → AfterFetch limit (λ bytes. Went (next bytes)) answer (on_shelf s v) o t → Went (Fetches name limit next) s o t
+unfolding Went
+fetched name limit next s v answer o t was after = inr (v, answer, was, after)
+
+pub stored : (name bytes : List ℕ) (next : Plan) (s : World) (v : ShelfView) (answer : Result (Unit {0}) StoreError) (o : End) (t : World) → Stored name bytes answer s.shelf v → AfterStore (Went next) answer (on_shelf s v) o t → Went (Stores name bytes next) s o t
+unfolding Went
+stored name bytes next s v answer o t was after = inr (v, answer, was, after)
+
+-- memory may be wanting before any call
+pub runs_out : (plan : Plan) (s : World) → Went plan s (Err Memory) s
+unfolding Went
+runs_out (Ends end) s = inl (refl, refl)
+runs_out (Fetches name limit next) s = inl (refl, refl)
+runs_out (Stores name bytes next) s = inl (refl, refl)
+runs_out (Prints text next) s = inl (refl, refl)
+runs_out (Reports text next) s = inl (refl, refl)
+runs_out (Reads most next) s = inl (refl, refl)
+
+-- the end is reached
+pub ended : (end : Result Finished Cause) (s : World) → Went (Ends end) s (planned_end end) s
+unfolding Went
+ended end s = inr (refl, refl)
+
+-- a check passes, or ends the plan
+pub passes : {X : Type 0} (r : Result X Cause) (x : X) (next : X → Plan) (s : World) (o : End) (t : World) → r ≡ Ok x → Went (next x) s o t → Went (checked r next) s o t
+passes {X} r x next s o t is went = let P : Result X Cause → Type 0 = λ r. Went (checked r next) s o t in subst P (sym is) went
+
+pub refuses : {X : Type 0} (r : Result X Cause) (cause : Cause) (next : X → Plan) (s : World) → r ≡ Err cause → Went (checked r next) s (Err (Because cause)) s
+refuses {X} r cause next s is = let P : Result X Cause → Type 0 = λ r. Went (checked r next) s (Err (Because cause)) s in subst P (sym is) (ended (Err cause) s)
+
+pub refuses_or_runs_out : {X : Type 0} (r : Result X Cause) (stop : Stop) (next : X → Plan) (s : World) → ChecksErr stop r → Went (checked r next) s (Err stop) s
+refuses_or_runs_out r (Because cause) next s is = refuses r cause next s is
+refuses_or_runs_out r (Outside object) next s is = absurd is
+refuses_or_runs_out r Memory next s is = runs_out (checked r next) s
+
+-- A part that is fetched and then checked.
+pub goes_checked : {X Y A : Type 0} (view : X → Y) (part : (A → Plan) → Plan) (check : A → Result Y Cause) (a : A) (s t : World) (result : Result X Stop)
+    → ((next : A → Plan) (o : End) (u : World) → Went (next a) t o u → Went (part next) s o u)
+    → Checks view result (check a)
+    → Goes view (λ next. part (λ a. checked (check a) next)) s result t
+goes_checked view part check a s t (Ok x) first is = λ next o u went. first (λ a. checked (check a) next) o u (passes (check a) (view x) next t o u is went)
+goes_checked view part check a s t (Err stop) first is = λ next. first (λ a. checked (check a) next) (Err stop) t (refuses_or_runs_out (check a) stop next t is)
+
+-- an error that is passed on
+pub passes_on : {X Y : Type 0} (view : X → Y) (part : (Y → Plan) → Plan) (s t : World) (stop : Stop) (r : Result X Stop)
+    → ((next : Y → Plan) → Went (part next) s (Err stop) t) → IsErrAnd r (λ e. e ≡ stop) → Goes view part s r t
+passes_on view part s t stop r went is = let p = err_from_is_err_and r is in rw (p.1, p.2) went
+
+-- memory is wanting where nothing is refused
+pub memory_ends : {Y : Type 0} (plan : Plan) (s : World) (stop : Stop) (y : Y) → ChecksErr stop (Ok y) → Went plan s (Err stop) s
+memory_ends plan s (Because cause) y h = cc
+memory_ends plan s (Outside object) y h = absurd h
+memory_ends plan s Memory y h = runs_out plan s
+
+-- what is inside two equal answers
+pub ok_same : {Y : Type 0} (a b : Y) → (let x : Result Y Cause = Ok a in x) ≡ Ok b → a ≡ b
+ok_same a b h = cc

@@ -1,0 +1,182 @@
+use Rattle.std.proofs.Common.{◌≡◌, ◌⊎◌, ◌<◌, ◌≤◌, ◌+◌, ◌-◌, ◌^◌, nat_le, min, ℕ, List, [], ◌∷◌, ◌++◌, length, take, drop, Option, Some, None, Result, Ok, Err, cond, Bool, true, false, IsTrue, IfSome, IsErrAnd, refl, sym, ◌∙◌, ap, subst, inl, inr, arith, append_assoc}
+use Rattle.std.specs.Option.{option_map}
+use Rattle.std.proofs.lemmas.List.{append-nil}
+use Rattle.std.proofs.lemmas.Bool.{le-leb, lt-leb, cond-true, cond-false}
+use Rattle.br_outside.specs.Files.{Files, put}
+use Rattle.br_outside.specs.Outside.{ShelfView, StreamView, Rose, Fetched, Stored, Gave}
+use Rattle.br_outside.specs.declared.errors.ShelfError.{ShelfError}
+use Rattle.br_outside.specs.declared.errors.ShelfError.TheVariants as shelf_errors
+use Rattle.br_outside.specs.declared.errors.StoreError.{StoreError}
+use Rattle.br_outside.specs.declared.errors.StoreError.TheVariants as store_errors
+use Rattle.br_outside.specs.declared.errors.SinkError.{SinkError}
+use Rattle.br_outside.specs.declared.errors.SinkError.TheVariants as sink_errors
+use Rattle.binrec.specs.Plans.World.{World, on_shelf, on_input, on_out, on_report, faults_of, calm_of}
+use Rattle.binrec.specs.Plans.Plan.{Plan, Ends, Fetches, Stores, Prints, Reports, Reads, ReadError, ReadFailed, ReadMemory, Read, Went, Run, RunsOut, Fails, AfterFetch, AfterStore, AfterGive, AfterRead, planned_end}
+use Rattle.binrec.specs.Plans.Texts.{Finished, End, end_text, end_status, object_text, finish_status, cause_status}
+use Rattle.binrec.specs.declared.acts.stop.Stop.{Stop}
+use Rattle.binrec.specs.declared.acts.stop.Stop.TheVariants.{Because, Outside, Memory}
+use Rattle.binrec.specs.declared.acts.stop.Cause.{Cause}
+use Rattle.binrec.specs.declared.acts.stop.Cause.TheVariants.{Usage, RefusedWord, Limited}
+use Rattle.binrec.specs.declared.acts.stop.Finish.TheVariants as finishes
+use Rattle.binrec.specs.declared.acts.stop.Object.{Object}
+use Rattle.binrec.specs.declared.acts.stop.Object.TheVariants as objects
+use Rattle.binrec.specs.declared.acts.stop.Limit.TheVariants as limits
+use Rattle.binrec.specs.Plans.Told.{Ending, ends_with, after_fetch, printed_before, reported_before, expected, NoFiles, NoInput, IsTold, HasFailed}
+use Rattle.binrec.proofs.Plans.Steps.{IsKept, nothing, two_texts, shelf_kept, input_kept, out_kept, report_kept, rises, fails_later, no_fault}
+
+-- a step of a run: the files, the input left, and what it printed and reported
+record IsStep (files : Files) (left : List ℕ) (files' : Files) (left' : List ℕ) (printed reported : List ℕ) (s m : World) : Type 0 where
+  kept : IsKept s m
+  shelf : s.shelf.files ≡ Some files → m.shelf.files ≡ Some files'
+  input : s.input.bytes ≡ Some left → m.input.bytes ≡ Some left'
+  out : m.out.bytes ≡ option_map (λ w. w ++ printed) s.out.bytes
+  report : m.report.bytes ≡ option_map (λ w. w ++ reported) s.report.bytes
+
+-- all was done as expected, up to the report line
+pub record IsDone (files : Files) (left : List ℕ) (e : Ending) (s : World) (o : End) (t : World) : Type 0 where
+  pub ends : o ≡ e.end
+  pub shelf : s.shelf.files ≡ Some files → t.shelf.files ≡ Some e.files
+  pub input : s.input.bytes ≡ Some left → t.input.bytes ≡ Some e.left
+  pub out : t.out.bytes ≡ option_map (λ w. w ++ e.printed) s.out.bytes
+  pub report : t.report.bytes ≡ option_map (λ w. w ++ e.reported) s.report.bytes
+  pub rose : o ≡ Err (Outside objects.Shelf) → Rose s.shelf.faults t.shelf.faults
+
+abbrev pub Follows : Files → List ℕ → Ending → World → End → World → Type 0
+Follows files left e s o t = (o ≡ Err Memory) ⊎ ((x : Object) × (o ≡ Err (Outside x)) × HasFailed x s t) ⊎ IsDone files left e s o t
+
+shelf_step : (files files' : Files) (left : List ℕ) (s : World) (v : ShelfView) → s.shelf.faults ≤ v.faults → v.calm ≡ s.shelf.calm
+    → (s.shelf.files ≡ Some files → v.files ≡ Some files') → IsStep files left files' left [] [] s (on_shelf s v)
+shelf_step files files' left s v later calm holds = record { kept = shelf_kept s v later calm; shelf = holds; input = λ h. h; out = nothing s.out.bytes; report = nothing s.report.bytes }
+
+input_step : (files : Files) (left left' : List ℕ) (s : World) (v : StreamView) → s.input.faults ≤ v.faults → v.calm ≡ s.input.calm
+    → (s.input.bytes ≡ Some left → v.bytes ≡ Some left') → IsStep files left files left' [] [] s (on_input s v)
+input_step files left left' s v later calm has = record { kept = input_kept s v later calm; shelf = λ h. h; input = has; out = nothing s.out.bytes; report = nothing s.report.bytes }
+
+out_step : (files : Files) (left text : List ℕ) (s : World) (v : StreamView) → s.out.faults ≤ v.faults → v.calm ≡ s.out.calm
+    → v.bytes ≡ option_map (λ w. w ++ text) s.out.bytes → IsStep files left files left text [] s (on_out s v)
+out_step files left text s v later calm grew = record { kept = out_kept s v later calm; shelf = λ h. h; input = λ h. h; out = grew; report = nothing s.report.bytes }
+
+report_step : (files : Files) (left text : List ℕ) (s : World) (v : StreamView) (answer : Result (Unit {0}) SinkError) → Gave text answer s.report v
+    → v.bytes ≡ option_map (λ w. w ++ text) s.report.bytes → IsStep files left files left [] text s (on_report s v)
+report_step files left text s v answer gave grew = record { kept = report_kept s v text answer gave; shelf = λ h. h; input = λ h. h; out = nothing s.out.bytes; report = grew }
+
+still : (files : Files) (left : List ℕ) (s : World) → IsStep files left files left [] [] s s
+still files left s = shelf_step files files left s s.shelf (omega arith) refl (λ h. h)
+
+-- what comes after a step
+done_after : (files : Files) (left : List ℕ) (files' : Files) (left' printed reported : List ℕ) (e : Ending) (s m : World) (o : End) (t : World)
+    → IsStep files left files' left' printed reported s m → IsDone files' left' e m o t
+    → IsDone files left (record e { printed = printed ++ e.printed; reported = reported ++ e.reported }) s o t
+done_after files left files' left' printed reported e s m o t step done = record {
+  ends = done.ends;
+  shelf = λ h. done.shelf (step.shelf h);
+  input = λ h. done.input (step.input h);
+  out = two_texts s.out.bytes m.out.bytes t.out.bytes printed e.printed step.out done.out;
+  report = two_texts s.report.bytes m.report.bytes t.report.bytes reported e.reported step.report done.report;
+  rose = λ h. rises s.shelf.faults m.shelf.faults t.shelf.faults (step.kept.later objects.Shelf) (done.rose h);
+}
+
+after : (files : Files) (left : List ℕ) (files' : Files) (left' printed reported : List ℕ) (e : Ending) (s m : World) (o : End) (t : World)
+    → IsStep files left files' left' printed reported s m → Follows files' left' e m o t
+    → Follows files left (record e { printed = printed ++ e.printed; reported = reported ++ e.reported }) s o t
+after files left files' left' printed reported e s m o t step (inl memory) = inl memory
+after files left files' left' printed reported e s m o t step (inr (inl (x, is, failed))) = inr (inl (x, is, fails_later x s m t step.kept failed))
+after files left files' left' printed reported e s m o t step (inr (inr done)) = inr (inr (done_after files left files' left' printed reported e s m o t step done))
+
+-- the end stands where a step came to
+stops_at : (files : Files) (left : List ℕ) (files' : Files) (left' : List ℕ) (end : End) (s m : World) (o : End) (t : World)
+    → IsStep files left files' left' [] [] s m → o ≡ end → t ≡ m → (o ≡ Err (Outside objects.Shelf) → Rose s.shelf.faults m.shelf.faults)
+    → Follows files left (ends_with end files' left') s o t
+stops_at files left files' left' end s m o t step is same rose =
+    let P : World → Type 0 = λ t. IsDone files left (ends_with end files' left') s o t in
+    inr (inr (subst P (sym same) (record { ends = is; shelf = step.shelf; input = step.input; out = step.out; report = step.report; rose = rose })))
+
+failed_at : (x : Object) (s m t : World) → t ≡ m → Rose (faults_of x s) (faults_of x m) → (IsTrue (calm_of x s) → ⊥) → HasFailed x s t
+failed_at x s m t same rose loud = let P : World → Type 0 = λ t. HasFailed x s t in subst P (sym same) (record { rose = rose; loud = loud })
+
+pub told_to : {A : Type 0} (o : Option A) (a : A) (P : A → Type 0) → o ≡ Some a → IfSome o P → P a
+told_to {A} o a P is h = let Q : Option A → Type 0 = λ o. IfSome o P in subst Q is h
+
+fetch_ok : (limit : ℕ) (next : List ℕ → Ending) (files : Files) (left bytes : List ℕ) (c : Option (List ℕ)) → c ≡ Some bytes → length bytes ≤ limit → next bytes ≡ after_fetch limit next files left c
+fetch_ok limit next files left bytes c here short = rw here (sym (cond-true (nat_le (length bytes) limit) (next bytes) _ (le-leb (length bytes) limit short)))
+
+fetch_long : (limit : ℕ) (next : List ℕ → Ending) (files : Files) (left bytes : List ℕ) (c : Option (List ℕ)) → c ≡ Some bytes → limit < length bytes
+    → ends_with (Err (Because (Limited (limits.File limit)))) files left ≡ after_fetch limit next files left c
+fetch_long limit next files left bytes c here long = rw here (sym (cond-false (nat_le (length bytes) limit) (next bytes) _ (lt-leb (length bytes) limit long)))
+
+-- a fetch that failed: the name is absent, or the shelf is not calm
+failed_fetch : (limit : ℕ) (next : List ℕ → Ending) (files : Files) (left name : List ℕ) (s : World) (v : ShelfView) (o : End) (t : World) → s.shelf.files ≡ Some files → Fetched name limit (Err shelf_errors.Failed) s.shelf v
+    → o ≡ Err (Outside objects.Shelf) → t ≡ on_shelf s v → (c : Option (List ℕ)) → files name ≡ c → Follows files left (after_fetch limit next files left c) s o t
+failed_fetch limit next files left name s v o t told was is same None here =
+    stops_at files left files left _ s (on_shelf s v) o t (shelf_step files files left s v was.later was.calm (λ h. was.same ∙ h)) is same (λ h. was.gives.0)
+failed_fetch limit next files left name s v o t told was is same (Some bytes) here = inr (inl (
+  objects.Shelf,
+  is,
+  failed_at objects.Shelf s (on_shelf s v) t same was.gives.0
+      (λ calm. let absent : files name ≡ None = told_to s.shelf.files files (λ f. f name ≡ None) told (was.gives.1 calm) in cc),
+))
+
+long_fetch : (limit : ℕ) (next : List ℕ → Ending) (files : Files) (left name : List ℕ) (s : World) (v : ShelfView) (o : End) (t : World) → s.shelf.files ≡ Some files → Fetched name limit (Err shelf_errors.TooLong) s.shelf v
+    → o ≡ Err (Because (Limited (limits.File limit))) → t ≡ on_shelf s v → Follows files left (after_fetch limit next files left (files name)) s o t
+long_fetch limit next files left name s v o t told was is same =
+    let there : (bytes : List ℕ) × (files name ≡ Some bytes) × (limit < length bytes) = told_to s.shelf.files files (λ f. (bytes : List ℕ) × (f name ≡ Some bytes) × (limit < length bytes)) told was.gives.0 in
+    let P : Ending → Type 0 = λ e. Follows files left e s o t in
+    subst P (fetch_long limit next files left there.0 (files name) there.1 there.2)
+    (stops_at files left files left _ s (on_shelf s v) o t (shelf_step files files left s v was.later was.calm (λ h. was.same ∙ h)) is same (λ h. cc))
+
+-- what a plan that asks the shelf, or the input, is told
+asked : {A B : Type 0} → A ⊎ B → (A → ⊥) → B
+asked (inl a) none = absurd (none a)
+asked (inr b) none = b
+
+either : {A B C D : Type 0} → A ⊎ B → (A → C) → (B → D) → C ⊎ D
+either (inl a) f g = inl (f a)
+either (inr b) f g = inr (g b)
+
+-- the files of a plan that stores are told
+stored_files : (name bytes : List ℕ) (files : Files) (s : World) (v : ShelfView) (u : Unit {0}) → Stored name bytes (Ok u) s.shelf v → s.shelf.files ≡ Some files → v.files ≡ Some (put name (Some bytes) files)
+stored_files name bytes files s v u was told = was.gives.0 ∙ ap (option_map (put name (Some bytes))) told
+
+pub follows : (p : Plan) (files : Files) (left : List ℕ) (s : World) (o : End) (t : World) → IsTold p files left s → Went p s o t → Follows files left (expected p files left) s o t
+unfolding Went expected NoFiles NoInput
+follows (Ends end) files left s o t told (inl out) = inl out.0
+follows (Ends end) files left s o t told (inr (is, same)) = stops_at files left files left _ s s o t (still files left s) is same (λ h. absurd (no_fault end o objects.Shelf is h))
+follows (Fetches name limit next) files left s o t told (inl out) = inl out.0
+follows (Fetches name limit next) files left s o t told (inr (v, Ok bytes, was, went)) =
+    let holds : s.shelf.files ≡ Some files = asked told.shelf (λ a. a) in
+    let here : files name ≡ Some bytes = told_to s.shelf.files files (λ f. f name ≡ Some bytes) holds was.gives.1 in
+    let P : Ending → Type 0 = λ e. Follows files left e s o t in
+    subst P (fetch_ok limit (λ bytes. expected (next bytes) files left) files left bytes (files name) here was.gives.0)
+    (after files left files left [] [] _ s (on_shelf s v) o t (shelf_step files files left s v was.later was.calm (λ h. was.same ∙ h))
+    (follows (next bytes) files left (on_shelf s v) o t (record { shelf = inr (was.same ∙ holds); input = either told.input (λ a. a bytes) (λ b. b) }) went))
+follows (Fetches name limit next) files left s o t told (inr (v, Err shelf_errors.Failed, was, went)) =
+    failed_fetch limit (λ bytes. expected (next bytes) files left) files left name s v o t (asked told.shelf (λ a. a)) was went.0 went.1 (files name) refl
+follows (Fetches name limit next) files left s o t told (inr (v, Err shelf_errors.TooLong, was, went)) =
+    long_fetch limit (λ bytes. expected (next bytes) files left) files left name s v o t (asked told.shelf (λ a. a)) was went.0 went.1
+follows (Fetches name limit next) files left s o t told (inr (v, Err shelf_errors.Memory, was, went)) = inl went.0
+follows (Stores name bytes next) files left s o t told (inl out) = inl out.0
+follows (Stores name bytes next) files left s o t told (inr (v, Ok u, was, went)) =
+    let holds : s.shelf.files ≡ Some files = asked told.shelf (λ a. a) in
+    after files left (put name (Some bytes) files) left [] [] _ s (on_shelf s v) o t (shelf_step files (put name (Some bytes) files) left s v was.later was.calm (stored_files name bytes files s v u was))
+    (follows next (put name (Some bytes) files) left (on_shelf s v) o t (record { shelf = inr (stored_files name bytes files s v u was holds); input = told.input }) went)
+follows (Stores name bytes next) files left s o t told (inr (v, Err store_errors.Failed, was, went)) = inr (inl (objects.Shelf, went.0, failed_at objects.Shelf s (on_shelf s v) t went.1 was.gives.1 was.gives.2))
+follows (Stores name bytes next) files left s o t told (inr (v, Err store_errors.Memory, was, went)) = inl went.0
+follows (Prints text next) files left s o t told (inl out) = inl out.0
+follows (Prints text next) files left s o t told (inr (v, Ok u, was, went)) =
+    after files left files left text [] _ s (on_out s v) o t (out_step files left text s v was.later was.calm was.gives.0) (follows next files left (on_out s v) o t (record { shelf = told.shelf; input = told.input }) went)
+follows (Prints text next) files left s o t told (inr (v, Err sink_errors.Failed, was, went)) = inr (inl (objects.Output, went.0, failed_at objects.Output s (on_out s v) t went.1 was.gives.1 was.gives.2))
+follows (Prints text next) files left s o t told (inr (v, Err sink_errors.Memory, was, went)) = inl went.0
+follows (Reports text next) files left s o t told (inl out) = inl out.0
+follows (Reports text next) files left s o t told (inr (v, Ok u, was, went)) =
+    after files left files left [] text _ s (on_report s v) o t (report_step files left text s v (Ok u) was was.gives.0) (follows next files left (on_report s v) o t (record { shelf = told.shelf; input = told.input }) went)
+follows (Reports text next) files left s o t told (inr (v, Err sink_errors.Failed, was, went)) = inr (inl (objects.Report, went.0, failed_at objects.Report s (on_report s v) t went.1 was.gives.1 was.gives.2))
+follows (Reports text next) files left s o t told (inr (v, Err sink_errors.Memory, was, went)) = inl went.0
+follows (Reads most next) files left s o t told (inl out) = inl out.0
+follows (Reads most next) files left s o t told (inr (v, Ok bytes, was, went)) =
+    let has : s.input.bytes ≡ Some left = asked told.input (λ a. a) in
+    let here : (bytes ≡ take most left) × (v.bytes ≡ Some (drop most left)) = told_to s.input.bytes left (λ b. (bytes ≡ take most b) × (v.bytes ≡ Some (drop most b))) has was.gives.1 in
+    let P : List ℕ → Type 0 = λ bytes. Follows files left (expected (next bytes) files (drop most left)) s o t in
+    subst P here.0 (after files left files (drop most left) [] [] _ s (on_input s v) o t (input_step files left (drop most left) s v was.later was.calm (λ h. here.1))
+    (follows (next bytes) files (drop most left) (on_input s v) o t (record { shelf = either told.shelf (λ a. a bytes) (λ b. b); input = inr here.1 }) went))
+follows (Reads most next) files left s o t told (inr (v, Err ReadFailed, was, went)) = inr (inl (objects.Input, went.0, failed_at objects.Input s (on_input s v) t went.1 was.gives.1 was.gives.2))
+follows (Reads most next) files left s o t told (inr (v, Err ReadMemory, was, went)) = inl went.0

@@ -1,0 +1,53 @@
+-- The commands, each as its plan. The first cause in the order of work decides.
+use Rattle.std.specs.Prelude.{◌≡◌, ℕ, List, ◌++◌, length, Result, Ok, Err, codes, String, string_bytes}
+use Rattle.std.specs.Fmt.{decimal}
+use Rattle.elf_read.specs.Elf.{elf, Refused}
+use Rattle.elf_read.specs.declared.exe.Exe.{Exe}
+use Rattle.elf_read.specs.declared.exe.Reach.TheVariants.{Original}
+use Rattle.build_core.specs.Image.{image}
+use Rattle.binrec.specs.Plans.Plan.{Plan, Ends, Fetches, Stores}
+use Rattle.binrec.specs.Plans.Parts.{checked}
+use Rattle.binrec.specs.Plans.Texts.{Finished, End}
+use Rattle.binrec.specs.Words.{Asked, Builds, command}
+use Rattle.binrec.specs.declared.acts.stop.Outcome.{Outcome}
+use Rattle.binrec.specs.declared.acts.stop.Finish.TheVariants.{Done}
+use Rattle.binrec.specs.declared.acts.stop.Stop.{Stop}
+use Rattle.binrec.specs.declared.acts.stop.Cause.{Cause}
+use Rattle.binrec.specs.declared.acts.stop.Cause.TheVariants.{Usage, RefusedWord}
+
+-- what a file says, or its refusal, with the position of its word
+abbrev pub of_word : ℕ → Result Exe Refused → Result Exe Cause
+of_word word (Ok exe) = Ok exe
+of_word word (Err refused) = Err (RefusedWord word refused.number refused.place)
+
+-- an original is fetched and read
+abbrev pub original_part : List ℕ → ℕ → (Exe → Plan) → Plan
+original_part name word next = Fetches name 16777216 (λ bytes. checked (of_word word (elf Original bytes)) next)
+
+abbrev pub built_line : ℕ → ℕ → ℕ → List ℕ
+built_line blocks code length = codes "built " ++ (decimal blocks ++ (codes " " ++ (decimal code ++ (codes " " ++ (decimal length ++ codes "\n")))))
+
+abbrev pub done_with : List ℕ → Finished
+done_with line = record { finish = Done; line = line }
+
+abbrev pub image_part : List ℕ → Exe → Plan
+image_part name exe = Stores name (image exe) (Ends (Ok (done_with (built_line 0 5 (length (image exe))))))
+
+abbrev pub build_plan : List ℕ → List ℕ → Plan
+build_plan name original = original_part original 2 (image_part name)
+
+abbrev pub asked_plan : Asked → Plan
+asked_plan (Builds name original) = build_plan name original
+
+abbrev pub of_command : Result Asked ℕ → Plan
+of_command (Ok asked) = asked_plan asked
+of_command (Err at) = Ends (Err (Usage at))
+
+-- what the words ask for
+abbrev pub plan : List (List ℕ) → Plan
+plan words = of_command (command words)
+
+-- how the work of a command ended
+abbrev pub end_of : Result Outcome Stop → End
+end_of (Ok outcome) = Ok (record { finish = outcome.finish; line = string_bytes outcome.line })
+end_of (Err stop) = Err stop

@@ -1,0 +1,4 @@
+pub mod Plans
+pub mod Words
+pub mod Commands
+pub mod Meaning

@@ -1,0 +1,110 @@
+-- What a plan comes to over objects that tell what they hold, where nothing fails, and what this says of a run.
+use Rattle.std.specs.Prelude.{◌≡◌, ◌⊎◌, ◌<◌, ◌≤◌, ◌-◌, ◌^◌, nat_le, ℕ, List, [], ◌++◌, length, take, drop, Option, Some, None, Result, Ok, Err, cond, IsTrue}
+use Rattle.std.specs.Option.{option_map}
+use Rattle.br_outside.specs.Files.{Files, put}
+use Rattle.br_outside.specs.Outside.{Rose}
+use Rattle.binrec.specs.Plans.World.{World, faults_of, calm_of}
+use Rattle.binrec.specs.Plans.Plan.{Plan, Ends, Fetches, Stores, Prints, Reports, Reads, planned_end}
+use Rattle.binrec.specs.Plans.Texts.{End, end_text, end_status, object_text}
+use Rattle.binrec.specs.declared.acts.stop.Stop.TheVariants.{Because, Outside, Memory}
+use Rattle.binrec.specs.declared.acts.stop.Cause.TheVariants.{Limited}
+use Rattle.binrec.specs.declared.acts.stop.Limit.TheVariants as limits
+use Rattle.binrec.specs.declared.acts.stop.Object.{Object}
+use Rattle.binrec.specs.declared.acts.stop.Object.TheVariants as objects
+
+-- the end of the work, the files then, the input left, and what was printed and reported until then
+pub record Ending : Type 0 where
+  pub end : End
+  pub files : Files
+  pub left : List ℕ
+  pub printed : List ℕ
+  pub reported : List ℕ
+
+abbrev pub ends_with : End → Files → List ℕ → Ending
+ends_with end files left = record { end = end; files = files; left = left; printed = []; reported = [] }
+
+abbrev pub after_fetch : ℕ → (List ℕ → Ending) → Files → List ℕ → Option (List ℕ) → Ending
+after_fetch limit next files left None = ends_with (Err (Outside objects.Shelf)) files left
+after_fetch limit next files left (Some bytes) = cond (nat_le (length bytes) limit) (next bytes) (ends_with (Err (Because (Limited (limits.File limit)))) files left)
+
+abbrev pub printed_before : List ℕ → Ending → Ending
+printed_before text e = record e { printed = text ++ e.printed }
+
+abbrev pub reported_before : List ℕ → Ending → Ending
+reported_before text e = record e { reported = text ++ e.reported }
+
+-- what the plan comes to over these files, with this input left
+unfoldable pub expected : Plan → Files → List ℕ → Ending
+expected (Ends end) files left = ends_with (planned_end end) files left
+expected (Fetches name limit next) files left = after_fetch limit (λ bytes. expected (next bytes) files left) files left (files name)
+expected (Stores name bytes next) files left = expected next (put name (Some bytes) files) left
+expected (Prints text next) files left = printed_before text (expected next files left)
+expected (Reports text next) files left = reported_before text (expected next files left)
+expected (Reads most next) files left = expected (next (take most left)) files (drop most left)
+
+-- the plan asks nothing of the shelf
+unfoldable pub NoFiles : Plan → Type 0
+NoFiles (Ends end) = Unit {0}
+NoFiles (Fetches name limit next) = ⊥
+NoFiles (Stores name bytes next) = ⊥
+NoFiles (Prints text next) = NoFiles next
+NoFiles (Reports text next) = NoFiles next
+NoFiles (Reads most next) = (bytes : List ℕ) → NoFiles (next bytes)
+
+-- the plan asks nothing of the input
+unfoldable pub NoInput : Plan → Type 0
+NoInput (Ends end) = Unit {0}
+NoInput (Fetches name limit next) = (bytes : List ℕ) → NoInput (next bytes)
+NoInput (Stores name bytes next) = NoInput next
+NoInput (Prints text next) = NoInput next
+NoInput (Reports text next) = NoInput next
+NoInput (Reads most next) = ⊥
+
+-- The objects that the plan asks tell these contents.
+pub record IsTold (plan : Plan) (files : Files) (left : List ℕ) (s : World) : Type 0 where
+  pub shelf : NoFiles plan ⊎ (s.shelf.files ≡ Some files)
+  pub input : NoInput plan ⊎ (s.input.bytes ≡ Some left)
+
+-- an object that is not calm has failed
+pub record HasFailed (x : Object) (s t : World) : Type 0 where
+  pub rose : Rose (faults_of x s) (faults_of x t)
+  pub loud : IsTrue (calm_of x s) → ⊥
+
+-- The whole call did as expected: the status, the files, the input, the output and the report.
+pub record IsWhole (files : Files) (left : List ℕ) (e : Ending) (s : World) (result : ℕ) (t : World) : Type 0 where
+  pub status : result ≡ end_status e.end
+  pub shelf : s.shelf.files ≡ Some files → t.shelf.files ≡ Some e.files
+  pub input : s.input.bytes ≡ Some left → t.input.bytes ≡ Some e.left
+  pub out : t.out.bytes ≡ option_map (λ written. written ++ e.printed) s.out.bytes
+  pub report : t.report.bytes ≡ option_map (λ written. written ++ (e.reported ++ end_text e.end)) s.report.bytes
+  pub rose : e.end ≡ Err (Outside objects.Shelf) → Rose s.shelf.faults t.shelf.faults
+
+-- as expected, unless memory was wanting or an object failed
+abbrev pub Decided : Files → List ℕ → Ending → World → ℕ → World → Type 0
+Decided files left e s result t = (result ≡ 4) ⊎ ((result ≡ 3) × (x : Object) × HasFailed x s t) ⊎ IsWhole files left e s result t
+
+abbrev pub IsExact : Plan → World → ℕ → World → Type 0
+IsExact plan s result t = (files : Files) (left : List ℕ) → IsTold plan files left s → Decided files left (expected plan files left) s result t
+
+-- the counts are what they were, and below their greatest value
+abbrev pub IsUnchanged : World → World → Type 0
+IsUnchanged s t = (x : Object) → (faults_of x t ≡ faults_of x s) × (faults_of x s < 2 ^ 64 - 1)
+
+-- all objects are calm, and each name that is fetched is there at its turn
+pub record IsCalm (e : Ending) (s : World) : Type 0 where
+  pub calm : (x : Object) → IsTrue (calm_of x s)
+  pub there : e.end ≡ Err (Outside objects.Shelf) → ⊥
+
+-- Where no count rose, or all is calm and there, all was done as expected, unless memory was wanting.
+abbrev pub IsComplete : Plan → World → ℕ → World → Type 0
+IsComplete plan s result t = (files : Files) (left : List ℕ) → IsTold plan files left s → IsUnchanged s t ⊎ IsCalm (expected plan files left) s →
+    (result ≡ 4) ⊎ (IsWhole files left (expected plan files left) s result t × ((expected plan files left).end ≡ Err (Outside objects.Shelf) → ⊥))
+
+-- what was written grew by something and then this text
+abbrev pub EndsWith : List ℕ → Option (List ℕ) → Option (List ℕ) → Type 0
+EndsWith text old new = (before : List ℕ) × (new ≡ option_map (λ written. written ++ (before ++ text)) old)
+
+-- Status 3 comes only where the count of an object rose: of the report, or of the one that the last report line names.
+abbrev pub HasCause : World → ℕ → World → Type 0
+HasCause s result t = result ≡ 3 → Rose s.report.faults t.report.faults
+    ⊎ ((x : Object) × Rose (faults_of x s) (faults_of x t) × EndsWith (object_text x) s.report.bytes t.report.bytes)

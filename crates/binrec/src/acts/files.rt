@@ -1,0 +1,38 @@
+//! Files that are fetched and stored.
+ghost use Rattle.std.specs.Prelude.{◌≤◌, IfOk, length};
+ghost use Rattle.binrec.specs.Plans.World.{World, on_shelf};
+ghost use Rattle.binrec.specs.Plans.Plan.{Plan, Fetches, Stores};
+ghost use Rattle.binrec.specs.Plans.Parts.{Goes};
+
+use super::stop::{Cause, Limit, Object, Stop};
+use br_outside::{Shelf, ShelfError, StoreError};
+use std::alloc::Global;
+
+/// The content of a name, of at most `limit` bytes.
+pub fn fetch_file<F: Shelf>(
+    alloc: Global,
+    shelf: &mut F,
+    name: &str,
+    limit: u32,
+) -> Result<Vec<u8>, Stop>
+    ensures goes { (w : World) → Goes (λ v. v.items) (Fetches name.now limit) (on_shelf w (F.seen shelf.old)) result (on_shelf w (F.seen shelf.new)) }
+    ensures short { IfOk result (λ v. length v.items ≤ limit) }
+{
+    match shelf.fetch(alloc, name, limit) {
+        Ok(bytes) => Ok(bytes),
+        Err(ShelfError::Failed) => Err(Stop::Outside(Object::Shelf)),
+        Err(ShelfError::TooLong) => Err(Stop::Because(Cause::Limited(Limit::File(limit)))),
+        Err(ShelfError::Memory) => Err(Stop::Memory),
+    }
+}
+
+/// Makes the bytes the content of the name.
+pub fn store_file<F: Shelf>(shelf: &mut F, name: &str, bytes: &[u8]) -> Result<(), Stop>
+    ensures { (w : World) → Goes (λ x. x) (λ next. Stores name.now bytes.now (next tt)) (on_shelf w (F.seen shelf.old)) result (on_shelf w (F.seen shelf.new)) }
+{
+    match shelf.store(name, bytes) {
+        Ok(()) => Ok(()),
+        Err(StoreError::Failed) => Err(Stop::Outside(Object::Shelf)),
+        Err(StoreError::Memory) => Err(Stop::Memory),
+    }
+}

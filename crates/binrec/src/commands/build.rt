@@ -1,0 +1,107 @@
+//! `build N E`: the image of an original, stored under a name.
+ghost use Rattle.std.specs.Prelude.{◌≡◌, ◌≤◌, Ok, IfOk, length};
+ghost use Rattle.elf_read.specs.Elf.{elf, IsOriginal};
+ghost use Rattle.elf_read.specs.declared.exe.Reach.TheVariants.{Original};
+ghost use Rattle.build_core.specs.Image.{image};
+ghost use Rattle.std.specs.Prelude.{string_bytes};
+ghost use Rattle.binrec.specs.Plans.World.{World, on_shelf};
+ghost use Rattle.binrec.specs.Plans.Plan.{Went};
+ghost use Rattle.binrec.specs.Plans.Parts.{Goes, Checks};
+ghost use Rattle.binrec.specs.Commands.{of_word, original_part, image_part, build_plan, built_line, end_of};
+
+use crate::acts::files::{fetch_file, store_file};
+use crate::acts::stop::{Cause, Finish, Outcome, Stop};
+use br_outside::Shelf;
+use build_core::{BuildError, Built, build};
+use elf_read::{ElfError, Exe, Reach, read_elf};
+use std::alloc::Global;
+
+/// The most bytes of an original.
+const FILE_LIMIT: u32 = 16777216;
+
+/// What a file says as an original, which is named by this word.
+fn original_of(alloc: Global, bytes: Vec<u8>, word: u32) -> Result<Exe, Stop>
+    requires { length bytes.items ≤ FILE_LIMIT }
+    ensures checks { Checks (λ exe. exe) result (of_word word (elf Original bytes.items)) }
+    ensures original { IfOk result IsOriginal }
+{
+    match read_elf(alloc, &bytes, Reach::Original) {
+        Ok(exe) => Ok(exe),
+        Err(ElfError::Refused { number, place }) => Err(Stop::Because(Cause::RefusedWord {
+            word,
+            number: u32::from(number),
+            place,
+        })),
+        Err(ElfError::Memory) => Err(Stop::Memory),
+    }
+}
+
+/// The original under a name, which this word is, fetched and read.
+fn fetch_original<F: Shelf>(
+    alloc: Global,
+    shelf: &mut F,
+    name: &str,
+    word: u32,
+) -> Result<Exe, Stop>
+    ensures goes { (w : World) → Goes (λ exe. exe) (original_part name.now word) (on_shelf w (F.seen shelf.old)) result (on_shelf w (F.seen shelf.new)) }
+    ensures original { IfOk result IsOriginal }
+{
+    let bytes = fetch_file(alloc, shelf, name, FILE_LIMIT)?;
+    original_of(alloc, bytes, word)
+}
+
+/// The image of an original. The error is want of memory.
+fn image_of(alloc: Global, exe: &Exe) -> Result<Built, Stop>
+    requires { IsOriginal exe.now }
+    ensures { Checks (λ b. b) result (Ok (record { bytes = image exe.now; blocks = 0; code = 5 })) }
+{
+    match build(alloc, exe) {
+        Ok(built) => Ok(built),
+        Err(BuildError::Memory) => Err(Stop::Memory),
+    }
+}
+
+/// The report line of an image. The error is want of memory.
+fn line_of(alloc: Global, built: &Built) -> Result<String, Stop>
+    ensures { Checks string_bytes result (Ok (built_line built.now.blocks built.now.code (length built.now.bytes))) }
+{
+    let blocks = built.blocks;
+    let code = built.code;
+    let length = built.bytes.as_slice().len();
+    match format!(in alloc; "built {blocks} {code} {length}\n") {
+        Ok(line) => Ok(line),
+        Err(_) => Err(Stop::Memory),
+    }
+}
+
+/// Stores the image of an original under a name.
+fn store_image<F: Shelf>(
+    alloc: Global,
+    shelf: &mut F,
+    name: &str,
+    exe: &Exe,
+) -> Result<Outcome, Stop>
+    requires { IsOriginal exe.now }
+    ensures { (w : World) → Went (image_part name.now exe.now) (on_shelf w (F.seen shelf.old)) (end_of result) (on_shelf w (F.seen shelf.new)) }
+{
+    let built = image_of(alloc, exe)?;
+    let line = line_of(alloc, &built)?;
+    store_file(shelf, name, built.bytes.as_slice())?;
+    Ok(Outcome {
+        finish: Finish::Done,
+        line,
+    })
+}
+
+/// `build N E`: stores the image of the original E under the name N.
+pub fn build_command<F: Shelf>(
+    alloc: Global,
+    shelf: &mut F,
+    name: &str,
+    original: &str,
+) -> Result<Outcome, Stop>
+    ensures { (w : World) → Went (build_plan name.now original.now) (on_shelf w (F.seen shelf.old)) (end_of result) (on_shelf w (F.seen shelf.new)) }
+{
+    let exe = fetch_original(alloc, shelf, original, 2)?;
+    store_image(alloc, shelf, name, &exe)
+}
