@@ -31,6 +31,30 @@ fn work<F: Shelf>(alloc: Global, words: &[String], shelf: &mut F) -> Result<Outc
 }
 
 /// Does what the words after the program's name ask for, and answers its status.
+///
+/// `build N E` fetches E, of at most 16777216 bytes, and stores as N a file that does what E does.
+/// It takes nothing of the input and prints nothing on `out`. A name is a text of 1 to 4096 bytes.
+///
+/// The last call gives the report line:
+///
+/// | Status | When | Line |
+/// |---|---|---|
+/// | 0 | all was done | `built 0 5 L`, L the length of N in bytes |
+/// | 1 | the words are no command | `usage W`, W the position of the first wrong word, from 0, or the number of words where one is missing |
+/// | 2 | E is refused as an original | `refused word 2 K P`, with the refusal's number and its place in E |
+/// | 3 | a call of the shelf failed, or the report line could not be given | `outside shelf` |
+/// | 4 | want of memory | `memory` |
+/// | 7 | E is too long | `limit file 16777216` |
+///
+/// The first cause in the order of the work decides, but a report line that cannot be given makes
+/// the status 3, or 4 where the sink wants memory, in place of any other. After 1, 2 and 7 nothing is
+/// stored. After 4 the file may be stored, and after 3 where the report failed; where the store
+/// itself failed, what N holds is not known. No other name changes.
+///
+/// The clauses: `happened`, the calls made are those of the command's plan and no others; `exact`
+/// and `complete`, over objects that tell what they hold the answer is the expected one, unless memory
+/// is wanting or an object fails; `cause`, status 3 names an object whose count rose; `usage` and
+/// `build`, what the statuses mean.
 pub fn binrec<F: Shelf, I: Source, O: Sink, R: Sink>(
     alloc: Global,
     words: &[String],

@@ -37,7 +37,7 @@ fn changed(rt: &HostRuntime, at: usize, to: u8) -> (u8, u32)
 
 #[test]
 fn reads_a_program(rt: HostRuntime) {
-    let exe = read_elf(rt.alloc(), &HELLO, Reach::Original).expect(&rt, "accepted");
+    let exe = read_elf(rt.alloc(), &HELLO, Reach::Guest).expect(&rt, "accepted");
     assert_eq!(rt; exe.entry, 0x08048054);
     assert_eq!(rt; exe.brk_start, 0x08049000);
     assert_eq!(rt; exe.segments.len(), 1);
@@ -54,6 +54,7 @@ fn reads_a_program(rt: HostRuntime) {
 
 #[test]
 fn refuses_files(rt: HostRuntime) {
+    assert_eq!(rt; answer(&rt, &HELLO, Reach::Original), (0, 0));
     assert_eq!(rt; answer(&rt, &[], Reach::Original), (1, 0));
     assert_eq!(rt; answer(&rt, &HELLO[..51], Reach::Original), (1, 51));
     assert_eq!(rt; changed(&rt, 0, 0), (2, 0));

@@ -11,7 +11,7 @@ use Rattle.ia_inst.specs.Instructions.{behind_at, inst_at, decode_of}
 use Rattle.ia_inst.proofs.Spelled.{row_valid}
 use Rattle.ia_decode.proofs.Steps.{IsBytes, none_is}
 use Rattle.ia_decode.proofs.Laws.{decode_found}
-use Rattle.ia_decode.proofs.Fronts.{Alone, decode_alone}
+use Rattle.ia_decode.proofs.Fronts.{decode_alone}
 
 -- its bytes are read again, whatever follows
 pub decode_front : (bytes : List ℕ) (x : Inst × ℕ) → decode_of bytes ≡ Some x → (rest : List ℕ) → decode_of (take x.1 bytes ++ rest) ≡ Some x

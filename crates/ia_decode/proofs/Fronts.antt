@@ -1,9 +1,8 @@
 -- A reader sees no more than what it takes: so it reads the same from each list with that front.
-use Rattle.std.proofs.Common.{◌≡◌, ℕ, ◌+◌, ◌-◌, ◌≤◌, ◌/◌, ◌%◌, Bool, true, false, cond, not, ◌==◌, ◌&&◌, List, [], ◌∷◌, ◌++◌, length, Option, Some, None, refl, sym, ap, subst, ◌∙◌, append_assoc}
+use Rattle.std.proofs.Common.{◌≡◌, ℕ, ◌-◌, ◌≤◌, ◌/◌, ◌%◌, Bool, true, false, cond, not, ◌==◌, ◌&&◌, List, [], ◌∷◌, ◌++◌, length, Option, Some, None, refl, sym, ap, subst, ◌∙◌, append_assoc}
 use Rattle.std.specs.Prelude.{nat_lt}
 use Rattle.br_word.specs.declared.types.Width.{Width}
 use Rattle.br_word.specs.declared.types.Width.TheVariants.{B8, B16, B32}
-use Rattle.ia_inst.specs.declared.inst.Addr.{Addr}
 use Rattle.ia_inst.specs.declared.inst.Rm.{Rm}
 use Rattle.ia_inst.specs.declared.inst.Rm.TheVariants.{Reg, Mem}
 use Rattle.ia_inst.specs.declared.inst.Src.TheVariants as src
@@ -28,7 +27,7 @@ use Rattle.ia_inst.specs.Spells.{extended_to}
 use Rattle.ia_inst.specs.Reading.{◌>>=◌, Read, byte_at, four_at, displacement_at, based_at, memory_at, fields_at, operand_at}
 use Rattle.ia_inst.specs.Prefixes.{prefix_of, with, more, is_bare, is_near, is_return, is_nop, padding_of, width_of, string_of, prefixes_at}
 use Rattle.ia_inst.specs.Opcodes.{opcode_of, second_of}
-use Rattle.ia_inst.specs.Instructions.{Done, two_at, imm_at, binary_is, binary_at, constant_is, constant_at, alu_constant_at, mov_constant_at, absolute_at, memory_of, lea_at, unary_at, step_at, by_at, shift_of, shift_at, multiply_at, alu_byte_at, pop_at, simple_at, hint_at, is_repeat, end_branch_at, extend_at, second_at, escape_at, opcode_at, behind_at, inst_at, decode_of}
+use Rattle.ia_inst.specs.Instructions.{two_at, imm_at, binary_is, binary_at, constant_is, constant_at, alu_constant_at, mov_constant_at, absolute_at, memory_of, lea_at, unary_at, step_at, by_at, shift_of, shift_at, multiply_at, alu_byte_at, pop_at, simple_at, hint_at, is_repeat, end_branch_at, extend_at, second_at, escape_at, opcode_at, behind_at, inst_at, decode_of}
 use Rattle.ia_decode.proofs.Steps.{bind_some, some, some_is, none_is}
 use Rattle.ia_decode.proofs.Laws.{taken, not_long, long_not}
 

@@ -1,12 +1,12 @@
 -- A step asks for the flags that its instruction reads, before it accesses memory.
-use Rattle.std.proofs.Common.{◌≡◌, ℕ, ◌+◌, ◌-◌, ◌*◌, ◌^◌, ◌/◌, ◌%◌, ◌==◌, ◌||◌, not, Bool, true, false, cond, List, [], ◌∷◌, get_or, set, Option, Some, None, refl, ap, ◌∙◌}
+use Rattle.std.proofs.Common.{◌≡◌, ℕ, ◌+◌, ◌-◌, ◌^◌, ◌/◌, ◌==◌, ◌||◌, Bool, true, false, cond, List, [], ◌∷◌, get_or, set, Option, Some, None, refl, ap}
 use Rattle.br_word.specs.declared.types.Flags.{Flags}
 use Rattle.br_word.specs.declared.types.Width.{Width}
 use Rattle.br_word.specs.declared.types.Width.TheVariants.{B8, B32}
 use Rattle.br_word.specs.Memory.{Region, load, store}
 use Rattle.br_word.specs.Words.{size_of, bit}
 use Rattle.br_word.specs.Flags.{differ}
-use Rattle.br_word.specs.State.{Flag, CF, PF, ZF, SF, OF, flag_of}
+use Rattle.br_word.specs.State.{Flag, CF, PF, ZF, SF, OF}
 use Rattle.ia_inst.specs.declared.inst.Rm.{Rm}
 use Rattle.ia_inst.specs.declared.inst.Rm.TheVariants.{Reg, Mem}
 use Rattle.ia_inst.specs.declared.inst.Src.{Src}

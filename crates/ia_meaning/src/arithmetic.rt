@@ -1,6 +1,6 @@
 //! Sums, differences and logic.
 
-ghost use Rattle.std.specs.Prelude.{◌≡◌, ℕ, ◌<◌, ◌^◌, ◌==◌, if◌then◌else◌, IsTrue, List};
+ghost use Rattle.std.specs.Prelude.{◌≡◌, ℕ, ◌-◌, ◌<◌, ◌^◌, ◌==◌, if◌then◌else◌, IsTrue, List};
 ghost use Rattle.br_word.specs.Words.{bits_of};
 ghost use Rattle.ia_inst.specs.Canonical.{rm_valid};
 ghost use Rattle.ia_inst.specs.declared.inst.Inst.TheVariants as inst;
@@ -13,7 +13,7 @@ use crate::cpu::{Cpu, Refused};
 use crate::finish::{finish, finish_plain, settle};
 use crate::operand::{read_rm, read_src};
 use crate::status::{set, stepped};
-use br_word::{Sum, Width, add_flags, logic_flags, mask, sub_flags};
+use br_word::{Sum, Width, add_flags, logic_flags, sub_flags};
 use guest_mem::Memory;
 use ia_inst::{Rm, Src};
 
@@ -141,13 +141,24 @@ pub fn dec(w: Width, dst: &Rm, len: u8, cpu: &mut Cpu, m: &mut Memory) -> Result
     )
 }
 
+// The greatest number of a width.
+fn greatest(w: Width) -> u32
+    ensures { result ≡ 2 ^ bits_of w - 1 }
+{
+    match w {
+        Width::B8 => 0xFF,
+        Width::B16 => 0xFFFF,
+        Width::B32 => 0xFFFF_FFFF,
+    }
+}
+
 #[tactic(auto, unfolding(ia_inst::specs::Meaning::meaning))]
 pub fn not(w: Width, dst: &Rm, len: u8, cpu: &mut Cpu, m: &mut Memory) -> Result<(), Refused>
     requires { IsTrue (rm_valid dst.now) }
     ensures { (c : ℕ) → Does (inst.Not w dst.now) len c result cpu.old m.old cpu.new m.new }
 {
     let a = read_rm(w, dst, &cpu.regs, m)?;
-    finish_plain(w, dst, mask(w) - a, len, cpu, m)
+    finish_plain(w, dst, greatest(w) - a, len, cpu, m)
 }
 
 #[tactic(auto, unfolding(ia_inst::specs::Meaning::meaning))]

@@ -153,3 +153,6 @@ pub fn execute(i: &Inst, len: u8, cpu: &mut Cpu, m: &mut Memory, choice: u8) -> 
         Err(Refused::Division) => Outcome::Fault(GuestFault::Divide(cpu.eip)),
     }
 }
+
+#[cfg(test)]
+mod tests;

@@ -12,7 +12,7 @@ ghost use Rattle.ia_meaning.specs.Valid.{source_valid};
 use crate::cpu::{Cpu, Refused, next_of};
 use crate::finish::finish_plain;
 use crate::operand::{address, read_rm, read_src, reg, set_reg, write_rm};
-use br_word::{Width, mask};
+use br_word::Width;
 use guest_mem::Memory;
 use ia_inst::{Addr, Rm, Src};
 

@@ -35,6 +35,17 @@ fn count_of(count: &Count, regs: &[u32; 8]) -> u32
     }
 }
 
+// A count of 0 keeps the value and the flags.
+fn untouched(a: u32, cpu: &Cpu) -> Worked
+    ensures value { result.value ≡ a }
+    ensures after { result.after ≡ record { flags = cpu.now.flags; known = cpu.now.known } }
+{
+    Worked {
+        value: a,
+        after: kept(cpu),
+    }
+}
+
 fn shifted(op: ShiftOp, w: Width, a: u32, n: u32, cpu: &Cpu, choice: u8) -> Worked
     requires a_fits { a < 2 ^ bits_of w }
     requires n_fits { n < 32 }
@@ -43,10 +54,7 @@ fn shifted(op: ShiftOp, w: Width, a: u32, n: u32, cpu: &Cpu, choice: u8) -> Work
     ensures fits { result.value < 2 ^ bits_of w }
 {
     if n == 0 {
-        return Worked {
-            value: a,
-            after: kept(cpu),
-        };
+        return untouched(a, cpu);
     }
     let r = shift_result(op, w, a, n);
     let known = Flags {
@@ -117,10 +125,7 @@ fn rotated(right: bool, a: u32, n: u32, cpu: &Cpu, choice: u8) -> Worked
     ensures after { result.after ≡ status_after (rotated right a n).changes cpu.now choice }
 {
     if n == 0 {
-        return Worked {
-            value: a,
-            after: kept(cpu),
-        };
+        return untouched(a, cpu);
     }
     let value = if right {
         rotate_right(a, n)

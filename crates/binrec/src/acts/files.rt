@@ -9,6 +9,8 @@ use br_outside::{Shelf, ShelfError, StoreError};
 use std::alloc::Global;
 
 /// The content of a name, of at most `limit` bytes.
+///
+/// The error is a failure of the shelf, the limit where the content is longer, or want of memory.
 pub fn fetch_file<F: Shelf>(
     alloc: Global,
     shelf: &mut F,
@@ -26,7 +28,8 @@ pub fn fetch_file<F: Shelf>(
     }
 }
 
-/// Makes the bytes the content of the name.
+/// Makes the bytes the content of the name. The error is a failure of the shelf, after which the
+/// content of the name is not known, or want of memory, after which it is as before.
 pub fn store_file<F: Shelf>(shelf: &mut F, name: &str, bytes: &[u8]) -> Result<(), Stop>
     ensures { (w : World) → Goes (λ x. x) (λ next. Stores name.now bytes.now (next tt)) (on_shelf w (F.seen shelf.old)) result (on_shelf w (F.seen shelf.new)) }
 {

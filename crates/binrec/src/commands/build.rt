@@ -1,9 +1,8 @@
 //! `build N E`: the image of an original, stored under a name.
-ghost use Rattle.std.specs.Prelude.{◌≡◌, ◌≤◌, Ok, IfOk, length};
+ghost use Rattle.std.specs.Prelude.{◌≡◌, ◌≤◌, Ok, IfOk, length, string_bytes};
 ghost use Rattle.elf_read.specs.Elf.{elf, IsOriginal};
 ghost use Rattle.elf_read.specs.declared.exe.Reach.TheVariants.{Original};
 ghost use Rattle.build_core.specs.Image.{image};
-ghost use Rattle.std.specs.Prelude.{string_bytes};
 ghost use Rattle.binrec.specs.Plans.World.{World, on_shelf};
 ghost use Rattle.binrec.specs.Plans.Plan.{Went};
 ghost use Rattle.binrec.specs.Plans.Parts.{Goes, Checks};
@@ -19,7 +18,10 @@ use std::alloc::Global;
 /// The most bytes of an original.
 const FILE_LIMIT: u32 = 16777216;
 
-/// What a file says as an original, which is named by this word.
+/// What a file says as an original.
+///
+/// The error is the refusal, with the position `word` of the word that names the file, or want of
+/// memory.
 fn original_of(alloc: Global, bytes: Vec<u8>, word: u32) -> Result<Exe, Stop>
     requires { length bytes.items ≤ FILE_LIMIT }
     ensures checks { Checks (λ exe. exe) result (of_word word (elf Original bytes.items)) }
@@ -36,7 +38,9 @@ fn original_of(alloc: Global, bytes: Vec<u8>, word: u32) -> Result<Exe, Stop>
     }
 }
 
-/// The original under a name, which this word is, fetched and read.
+/// The original under a name, fetched and read. The name stands at the position `word`.
+///
+/// The error is a failure of the shelf, the limit of the file, the refusal, or want of memory.
 fn fetch_original<F: Shelf>(
     alloc: Global,
     shelf: &mut F,
@@ -74,7 +78,9 @@ fn line_of(alloc: Global, built: &Built) -> Result<String, Stop>
     }
 }
 
-/// Stores the image of an original under a name.
+/// Stores the image of an original under a name. The line is made before the file is stored.
+///
+/// The error is want of memory, after which nothing is stored, or a failure of the shelf.
 fn store_image<F: Shelf>(
     alloc: Global,
     shelf: &mut F,
@@ -93,7 +99,10 @@ fn store_image<F: Shelf>(
     })
 }
 
-/// `build N E`: stores the image of the original E under the name N.
+/// `build N E`: stores the image of the original E under the name N, and answers the report line.
+///
+/// The error is the first cause in the order of the work: a failure of the shelf, the limit of the
+/// file, its refusal, or want of memory.
 pub fn build_command<F: Shelf>(
     alloc: Global,
     shelf: &mut F,

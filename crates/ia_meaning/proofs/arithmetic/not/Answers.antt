@@ -3,4 +3,4 @@ use Rattle.ia_meaning.proofs.arithmetic.not.Goals as goal
 
 pub returns : goal.returns
 unfolding meaning
-returns c k = rw c.in_ok-a.ensures.value (rw (← c.mask.ensures) (c.finish_plain.ensures k))
+returns c k = rw c.in_ok-a.ensures.value (rw (← c.greatest.ensures) (c.finish_plain.ensures k))
