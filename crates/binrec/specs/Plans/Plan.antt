@@ -83,7 +83,7 @@ pub record InputFails (d : Turned) (left : List ℕ) (s : World) (o : End) (t : 
   pub ends : o ≡ Err (Outside objects.Input)
   pub taken : ℕ
   pub few : taken < d.asked
-  pub left : HasLeft (drop taken left) s.input t.input
+  pub rest : HasLeft (drop taken left) s.input t.input
   pub fails : Fails s.input t.input
   pub shelf : t.shelf ≡ s.shelf
   pub out : t.out ≡ s.out
