@@ -1,4 +1,6 @@
 pub mod Plans
+pub mod Addresses
+pub mod Turning
 pub mod Ends
 pub mod Courses
 pub mod Meanings

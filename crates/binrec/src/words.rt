@@ -12,11 +12,10 @@ fn wrong_at(at: u32, words: &[String]) -> u32
     let [first, ..] = words else {
         return 0;
     };
-    match first.as_str() {
-        "build" => at.min(3),
-        "run" => at,
-        _ => 0,
+    if first.as_str() == "build" {
+        return at.min(3);
     }
+    if first.as_str() == "run" { at } else { 0 }
 }
 
 /// Reads the words after the program's name as `build` or `run`.
