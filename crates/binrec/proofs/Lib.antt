@@ -1,5 +1,6 @@
 pub mod Plans
 pub mod Addresses
+pub mod Fitting
 pub mod Turning
 pub mod Ends
 pub mod Courses
