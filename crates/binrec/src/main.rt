@@ -29,6 +29,7 @@ fn words_of(rt: &HostRuntime) -> io::Result<Vec<String>> {
 /// Where the words cannot be taken, memory is wanting, and the status is 4.
 fn main(rt: HostRuntime) -> ExitCode {
     let Ok(words) = words_of(&rt) else {
+        let _told = eprintln!(rt; "memory");
         return ExitCode::from(4);
     };
     let mut shelf = FileShelf::new(rt.alloc(), &rt);

@@ -26,7 +26,7 @@ pub refused_early : (reach : Reach) (bytes : List ℕ) (e : ElfError) → Blames
 unfolding elf
 refused_early reach bytes (Answer.Refused number place) h =
     ap (λ r. unless_refused r (exe_of (field 4 24 bytes) (map (segment_of bytes) (loaded bytes)))) (stays 1 (take 6 (refusals Original bytes)) (table_refusals reach bytes) _ h)
-refused_early reach bytes Answer.Memory h = tt
+refused_early reach bytes Answer.Memory h = absurd h
 
 whole : (reach : Reach) (bytes : List ℕ) → first_refused 1 (take 6 (refusals Original bytes)) ≡ None → first_refused 1 (refusals reach bytes) ≡ first_refused 7 (table_refusals reach bytes)
 whole reach bytes h = goes_on 1 (take 6 (refusals Original bytes)) (table_refusals reach bytes) h
@@ -35,9 +35,9 @@ pub refused_late : (reach : Reach) (bytes : List ℕ) (e : ElfError) → first_r
 unfolding elf
 refused_late reach bytes (Answer.Refused number place) n h =
     ap (λ r. unless_refused r (exe_of (field 4 24 bytes) (map (segment_of bytes) (loaded bytes)))) (whole reach bytes n ∙ h)
-refused_late reach bytes Answer.Memory n h = tt
+refused_late reach bytes Answer.Memory n h = absurd h
 
-accepted_now : (reach : Reach) (bytes : List ℕ) → first_refused 1 (take 6 (refusals Original bytes)) ≡ None → first_refused 7 (table_refusals reach bytes) ≡ None → elf reach bytes ≡ Ok (exe_of (field 4 24 bytes) (map (segment_of bytes) (loaded bytes)))
+pub accepted_now : (reach : Reach) (bytes : List ℕ) → first_refused 1 (take 6 (refusals Original bytes)) ≡ None → first_refused 7 (table_refusals reach bytes) ≡ None → elf reach bytes ≡ Ok (exe_of (field 4 24 bytes) (map (segment_of bytes) (loaded bytes)))
 unfolding elf
 accepted_now reach bytes n h = ap (λ r. unless_refused r (exe_of (field 4 24 bytes) (map (segment_of bytes) (loaded bytes)))) (whole reach bytes n ∙ h)
 

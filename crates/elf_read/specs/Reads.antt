@@ -11,11 +11,11 @@ use Rattle.elf_read.specs.declared.check.Check.TheVariants.{OtherKind, WritesCod
 use Rattle.elf_read.specs.Elf.{field, table_of, loaded, first_where, is_other_kind, is_loaded, writes_code, is_outside, has_more_bytes, elf}
 use Rattle.elf_read.specs.Elf as Spec
 
--- the answer is what the definition says of the file, or memory was wanting
+-- the answer is what the definition says of the file, or memory was wanting for one that is accepted
 abbrev pub ReadsElf : Reach → List ℕ → Result Exe ElfError → Type 0
 ReadsElf reach bytes (Ok exe) = elf reach bytes ≡ Ok exe
 ReadsElf reach bytes (Err (Answer.Refused number place)) = elf reach bytes ≡ Err (record { number = number; place = place })
-ReadsElf reach bytes (Err Answer.Memory) = Unit {0}
+ReadsElf reach bytes (Err Answer.Memory) = (exe : Exe) × (elf reach bytes ≡ Ok exe)
 
 -- an error is this refusal
 abbrev pub Blames : ElfError → Option Spec.Refused → Type 0

@@ -61,7 +61,7 @@ pub unwritten_same : (v : StreamView) → Unwritten v v
 unwritten_same v = record { bytes = refl; steady = steady_same v }
 
 pub calls_by : (r : Result Called SysError) (old new : Machine) (left : List ℕ) (t : State) → Tells left old.streams.input
-  → after_call (begin old.cpu old.memory left) ≡ t → CallGives r (begin old.cpu old.memory left) t old new → Calls r old new
+    → after_call (begin old.cpu old.memory left) ≡ t → CallGives r (begin old.cpu old.memory left) t old new → Calls r old new
 calls_by r old new left t told e g =
     let P : State → Type 0 = λ t. CallGives r (begin old.cpu old.memory left) t old new in
     record { left = left; told = told; gives = subst P (sym e) g }
@@ -70,8 +70,8 @@ calls_by r old new left t told e g =
 
 -- t is the state afterwards, with the input that it had
 pub quiet : (called : Called) (u v : Cpu) (m n : MemoryView) (i o e : StreamView) (t : State) → after_call (begin u m (had i.bytes)) ≡ t
-  → called ≡ answer_of t.stop → state_of v n ≡ bare (record t { stop = Running }) → v.undefined ≡ u.undefined
-  → t.input ≡ had i.bytes → t.out ≡ [] → t.err ≡ [] → Calls (Ok called) (machine u m i o e) (machine v n i o e)
+    → called ≡ answer_of t.stop → state_of v n ≡ bare (record t { stop = Running }) → v.undefined ≡ u.undefined
+    → t.input ≡ had i.bytes → t.out ≡ [] → t.err ≡ [] → Calls (Ok called) (machine u m i o e) (machine v n i o e)
 quiet called u v m n i o e t h a b d left out err =
     let P : List ℕ → Type 0 = λ l. Leaves l i i in
     calls_by _ _ _ (had i.bytes) t (told_had i.bytes) h (record {
@@ -138,20 +138,24 @@ breaks u m n i o e value h is v =
 
 -- a call that wanted memory before it took or wrote anything
 pub no_memory : (u : Cpu) (m n : MemoryView) (i o e : StreamView) → IsTrue (takes_memory (begin u m (had i.bytes))) → n ≡ m → Calls (Err Memory) (machine u m i o e) (machine u n i o e)
-no_memory u m n i o e h same = calls_by _ _ _ (had i.bytes) _ (told_had i.bytes) refl (refl, same, record {
-  wanted = h;
-  taken = 0;
-  few = omega arith;
-  input = leaves_same i (had i.bytes) (told_had i.bytes);
-  out = unwritten_same o;
-  err = unwritten_same e;
-})
+no_memory u m n i o e h same = calls_by _ _ _ (had i.bytes) _ (told_had i.bytes) refl (
+  refl,
+  same,
+  record {
+    wanted = h;
+    taken = 0;
+    few = omega arith;
+    input = leaves_same i (had i.bytes) (told_had i.bytes);
+    out = unwritten_same o;
+    err = unwritten_same e;
+  },
+)
 
 pub breaks_not : (u : Cpu) (m n : MemoryView) (i o e : StreamView) → get_or u.regs 0 0 ≡ 45 → n ≡ m → Calls (Err Memory) (machine u m i o e) (machine u n i o e)
 breaks_not u m n i o e h same = no_memory u m n i o e (rw h refl) same
 
 pub answers_as : (called : Called) (u v : Cpu) (n : MemoryView) (old : Machine) (i o e : StreamView) (value : ℕ) → called ≡ Goes → v ≡ with_eax value u
-  → Calls (Ok Goes) old (machine (with_eax value u) n i o e) → Calls (Ok called) old (machine v n i o e)
+    → Calls (Ok Goes) old (machine (with_eax value u) n i o e) → Calls (Ok called) old (machine v n i o e)
 answers_as called u v n old i o e value a b h =
     let P : Called → Type 0 = λ called. Calls (Ok called) old (machine (with_eax value u) n i o e) in
     let Q : Cpu → Type 0 = λ v. Calls (Ok called) old (machine v n i o e) in
@@ -171,7 +175,7 @@ some_not o x a b = cc
 -- what is not filled is some bytes that may not be written
 not_filled : (at : ℕ) (new : List ℕ) (rs : List Region) → filled at new rs ≡ None → (0 < length new) × (bytes_at Writes at (length new) rs ≡ None)
 not_filled at new rs h = elim (leb_tells (length new) 0) [
-    inl a ↦ absurd (some_not _ rs (filled_none at new rs a.1) h)
+  | inl a ↦ absurd (some_not _ rs (filled_none at new rs a.1) h)
   | inr b ↦ (b.1, none_written at new rs (sym (filled_some at new rs b.1) ∙ h))
 ]
 
@@ -185,16 +189,16 @@ some_is (Some x) h = refl
 -- the bytes that were taken are all that the call asks for, if they fit
 enough : (at len most : ℕ) (bytes left : List ℕ) (rs ss : List Region) → IsWanted at len rs most → bytes ≡ take most left → filled at bytes rs ≡ Some ss → bytes ≡ take len left
 enough at len most bytes left rs ss w first f = elim (leb_tells len most) [
-    inl a ↦ (let e : most ≡ len = omega (arith, w.within, a.1) in first ∙ ap (λ n. take n left) e)
+  | inl a ↦ (let e : most ≡ len = omega (arith, w.within, a.1) in first ∙ ap (λ n. take n left) e)
   | inr b ↦ (let stops = w.stops b.1 in
-    let short : length bytes < most = elim (leb_tells most (length bytes)) [
-        inl c ↦ (let e : length bytes ≡ most = omega (arith, c.1, ap length first, length-take most left) in
+      let short : length bytes < most = elim (leb_tells most (length bytes)) [
+        | inl c ↦ (let e : length bytes ≡ most = omega (arith, c.1, ap length first, length-take most left) in
             let P : ℕ → Type 0 = λ n. bytes_at Writes at n rs ≡ None in
             absurd (some_not _ ss f (filled_not at bytes rs (omega (arith, stops.0)) (subst P (sym e) stops.1))))
-      | inr d ↦ d.1
-    ] in
-    let all : length left ≤ most = omega (arith, ap length first, length-take most left) in
-    first ∙ (take_all most left all ∙ sym (take_all len left (omega (arith, w.within)))))
+        | inr d ↦ d.1
+      ] in
+      let all : length left ≤ most = omega (arith, ap length first, length-take most left) in
+      first ∙ (take_all most left all ∙ sym (take_all len left (omega (arith, w.within)))))
 ]
 
 -- if they do not fit, neither does all that it asks for
@@ -208,16 +212,16 @@ fit : (at len most : ℕ) (bytes left : List ℕ) (rs : List Region) → IsWante
 fit at len most bytes left rs w first k lt =
     let same : length (take k left) ≡ k = length-take-le k left (omega (arith, ap length first, length-take most left)) in
     some_is _ (λ e. let n = not_filled at (take k left) rs e in
-        let P : ℕ → Type 0 = λ n. bytes_at Writes at n rs ≡ None in
-        w.fits k (omega (arith, ap length first, length-take most left)) (omega (arith, n.0)) (subst P same n.1))
+    let P : ℕ → Type 0 = λ n. bytes_at Writes at n rs ≡ None in
+    w.fits k (omega (arith, ap length first, length-take most left)) (omega (arith, n.0)) (subst P same n.1))
 
 asks_is : (u : Cpu) (m : MemoryView) (left : List ℕ) → get_or u.regs 0 0 ≡ 3 → get_or u.regs 3 0 ≡ 0 → asks (begin u m left) ≡ get_or u.regs 2 0
 asks_is u m left h g = rw (h, g) refl
 
 pub reads : (u : Cpu) (m n : MemoryView) (i j o e : StreamView) (most : ℕ) (bytes : List ℕ) → get_or u.regs 0 0 ≡ 3 → get_or u.regs 3 0 ≡ 0
-  → IsWanted (get_or u.regs 1 0) (get_or u.regs 2 0) m.regions most → Takes most (Ok bytes) i j
-  → (ss : List Region) → filled (get_or u.regs 1 0) bytes m.regions ≡ Some ss → n ≡ record m { regions = ss }
-  → Calls (Ok Goes) (machine u m i o e) (machine (with_eax (length bytes) u) n j o e)
+    → IsWanted (get_or u.regs 1 0) (get_or u.regs 2 0) m.regions most → Takes most (Ok bytes) i j
+    → (ss : List Region) → filled (get_or u.regs 1 0) bytes m.regions ≡ Some ss → n ≡ record m { regions = ss }
+    → Calls (Ok Goes) (machine u m i o e) (machine (with_eax (length bytes) u) n j o e)
 unfolding system
 reads u m n i j o e most bytes h g w t ss f is =
     let first = enough _ _ most bytes t.left m.regions ss w t.gives.first f in
@@ -235,9 +239,9 @@ reads u m n i j o e most bytes h g w t ss f is =
     }))
 
 pub read_faults : (u : Cpu) (m : MemoryView) (i j o e : StreamView) (most : ℕ) (bytes : List ℕ) → get_or u.regs 0 0 ≡ 3 → get_or u.regs 3 0 ≡ 0
-  → IsWanted (get_or u.regs 1 0) (get_or u.regs 2 0) m.regions most → Takes most (Ok bytes) i j
-  → filled (get_or u.regs 1 0) bytes m.regions ≡ None
-  → Calls (Ok (Fault (Access (get_or u.regs 1 0)))) (machine u m i o e) (machine u m j o e)
+    → IsWanted (get_or u.regs 1 0) (get_or u.regs 2 0) m.regions most → Takes most (Ok bytes) i j
+    → filled (get_or u.regs 1 0) bytes m.regions ≡ None
+    → Calls (Ok (Fault (Access (get_or u.regs 1 0)))) (machine u m i o e) (machine u m j o e)
 unfolding system
 read_faults u m i j o e most bytes h g w t f =
     let after : State = record (begin u m t.left) { stop = Faulted (Access (get_or u.regs 1 0)) } in
@@ -253,36 +257,44 @@ read_faults u m i j o e most bytes h g w t f =
     })
 
 pub read_fails : (u : Cpu) (m : MemoryView) (i j o e : StreamView) (most : ℕ) (x : SysError) → get_or u.regs 0 0 ≡ 3 → get_or u.regs 3 0 ≡ 0
-  → IsWanted (get_or u.regs 1 0) (get_or u.regs 2 0) m.regions most → Takes most (Err x) i j
-  → Calls (Err x) (machine u m i o e) (machine u m j o e)
-read_fails u m i j o e most Input h g w t = calls_by _ _ _ t.left _ t.told refl (refl, refl, record {
-  taken = t.gives.0.taken;
-  few = omega (arith, t.gives.0.few, w.within, asks_is u m t.left h g);
-  left = t.gives.0.rest;
-  fails = t.gives.1;
-  out = refl;
-  err = refl;
-})
-read_fails u m i j o e most Memory h g w t = calls_by _ _ _ t.left _ t.told refl (refl, refl, record {
-  wanted = rw h refl;
-  taken = t.gives.0.taken;
-  few = omega (arith, t.gives.0.few, w.within, asks_is u m t.left h g);
-  input = record { bytes = t.gives.0.rest; steady = t.gives.1 };
-  out = unwritten_same o;
-  err = unwritten_same e;
-})
+    → IsWanted (get_or u.regs 1 0) (get_or u.regs 2 0) m.regions most → Takes most (Err x) i j
+    → Calls (Err x) (machine u m i o e) (machine u m j o e)
+read_fails u m i j o e most Input h g w t = calls_by _ _ _ t.left _ t.told refl (
+  refl,
+  refl,
+  record {
+    taken = t.gives.0.taken;
+    few = omega (arith, t.gives.0.few, w.within, asks_is u m t.left h g);
+    left = t.gives.0.rest;
+    fails = t.gives.1;
+    out = refl;
+    err = refl;
+  },
+)
+read_fails u m i j o e most Memory h g w t = calls_by _ _ _ t.left _ t.told refl (
+  refl,
+  refl,
+  record {
+    wanted = rw h refl;
+    taken = t.gives.0.taken;
+    few = omega (arith, t.gives.0.few, w.within, asks_is u m t.left h g);
+    input = record { bytes = t.gives.0.rest; steady = t.gives.1 };
+    out = unwritten_same o;
+    err = unwritten_same e;
+  },
+)
 read_fails u m i j o e most Out h g w t = absurd t.gives
 read_fails u m i j o e most Report h g w t = absurd t.gives
 
 pub faults_as : (called fault : Called) (u : Cpu) (m n : MemoryView) (old : Machine) (i o e : StreamView) → called ≡ fault → n ≡ m
-  → Calls (Ok fault) old (machine u m i o e) → Calls (Ok called) old (machine u n i o e)
+    → Calls (Ok fault) old (machine u m i o e) → Calls (Ok called) old (machine u n i o e)
 faults_as called fault u m n old i o e a b h =
     let P : Called → Type 0 = λ called. Calls (Ok called) old (machine u m i o e) in
     let Q : MemoryView → Type 0 = λ n. Calls (Ok called) old (machine u n i o e) in
     subst Q (sym b) (subst P (sym a) h)
 
 pub counts_as : (called : Called) (u v : Cpu) (n : MemoryView) (old : Machine) (i o e : StreamView) (value count : ℕ) → called ≡ Goes → v ≡ with_eax value u → value ≡ count
-  → Calls (Ok Goes) old (machine (with_eax count u) n i o e) → Calls (Ok called) old (machine v n i o e)
+    → Calls (Ok Goes) old (machine (with_eax count u) n i o e) → Calls (Ok called) old (machine v n i o e)
 counts_as called u v n old i o e value count a b same h =
     let P : ℕ → Type 0 = λ value. Calls (Ok Goes) old (machine (with_eax value u) n i o e) in
     answers_as called u v n old i o e value a b (subst P (sym same) h)

@@ -45,9 +45,9 @@ both_taken left bytes piece a b =
     (a ∙ (ap (λ t. bytes ++ t) b ∙ (sym (append_assoc bytes piece _) ∙ ap (λ t. (bytes ++ piece) ++ t) (sym d))), d)
 
 more_taken : (o : Option (List ℕ)) (bytes piece : List ℕ) (b c : StreamView)
-  → IfSome o (λ left. (left ≡ bytes ++ drop (length bytes) left) × (b.bytes ≡ Some (drop (length bytes) left)))
-  → TakesPiece piece b c
-  → IfSome o (λ left. (left ≡ (bytes ++ piece) ++ drop (length (bytes ++ piece)) left) × (c.bytes ≡ Some (drop (length (bytes ++ piece)) left)))
+    → IfSome o (λ left. (left ≡ bytes ++ drop (length bytes) left) × (b.bytes ≡ Some (drop (length bytes) left)))
+    → TakesPiece piece b c
+    → IfSome o (λ left. (left ≡ (bytes ++ piece) ++ drop (length (bytes ++ piece)) left) × (c.bytes ≡ Some (drop (length (bytes ++ piece)) left)))
 more_taken None bytes piece b c h p = tt
 more_taken (Some left) bytes piece b c h p =
     let P : Option (List ℕ) → Type 0 = λ o. IfSome o (λ left. (left ≡ piece ++ drop (length piece) left) × (c.bytes ≡ Some (drop (length piece) left)) × (piece ≡ [] → left ≡ [])) in
@@ -61,8 +61,8 @@ taken_more bytes piece a b c h p s = record { told = more_taken a.bytes bytes pi
 -- ---- a piece
 
 full_piece : (o : Option (List ℕ)) (piece : List ℕ) (room : ℕ) (y : StreamView) → 0 < room
-  → IfSome o (λ left. (left ≡ piece ++ drop (length piece) left) × (y.bytes ≡ Some (drop (length piece) left)) × (length piece ≡ 0 → 0 < room → left ≡ []))
-  → IfSome o (λ left. (left ≡ piece ++ drop (length piece) left) × (y.bytes ≡ Some (drop (length piece) left)) × (piece ≡ [] → left ≡ []))
+    → IfSome o (λ left. (left ≡ piece ++ drop (length piece) left) × (y.bytes ≡ Some (drop (length piece) left)) × (length piece ≡ 0 → 0 < room → left ≡ []))
+    → IfSome o (λ left. (left ≡ piece ++ drop (length piece) left) × (y.bytes ≡ Some (drop (length piece) left)) × (piece ≡ [] → left ≡ []))
 full_piece None piece room y pos h = tt
 full_piece (Some left) piece room y pos h = (h.0, h.1, λ e. h.2 (ap length e) pos)
 
@@ -74,18 +74,19 @@ pub piece_added : (old zs after rest all : List ℕ) (n room : ℕ) (x y : Strea
 piece_added old zs after rest all n room x y same keeps pos t e =
     let le : n ≤ length zs = t.gives.0 in
     let len : length (take n after) ≡ n = length-take-le n after (omega arith) in
-    let P : ℕ → Type 0 = λ k. IfSome x.bytes (λ left. (left ≡ take n after ++ drop k left) × (y.bytes ≡ Some (drop k left)) × (k ≡ 0 → 0 < length zs → left ≡ [])) in
-    (take n after,
-     e ∙ ap (λ t. old ++ t) (take-append-le n after rest (omega arith)),
-     omega arith,
-     λ more. rw len (grind (arith, nat_tests)),
-     λ more. empty_take after n (grind (arith, nat_tests)),
-     full_piece x.bytes (take n after) (length zs) y (omega arith) (subst P (sym len) t.gives.2),
-     record { calm = t.calm; later = t.later; quiet = t.gives.3 })
+    let P : ℕ → Type 0 = λ k. IfSome x.bytes (λ left. (left ≡ take n after ++ drop k left) × (y.bytes ≡ Some (drop k left)) × (k ≡ 0 → 0 < length zs → left ≡ [])) in (
+      take n after,
+      e ∙ ap (λ t. old ++ t) (take-append-le n after rest (omega arith)),
+      omega arith,
+      λ more. rw len (grind (arith, nat_tests)),
+      λ more. empty_take after n (grind (arith, nat_tests)),
+      full_piece x.bytes (take n after) (length zs) y (omega arith) (subst P (sym len) t.gives.2),
+      record { calm = t.calm; later = t.later; quiet = t.gives.3 },
+    )
 
 lost_some : (o : Option (List ℕ)) (after : List ℕ) (n room : ℕ) (y : StreamView)
-  → IfSome o (λ left. (left ≡ take n after ++ drop n left) × (y.bytes ≡ Some (drop n left)) × (n ≡ 0 → 0 < room → left ≡ []))
-  → IfSome o (λ left. y.bytes ≡ Some (drop n left))
+    → IfSome o (λ left. (left ≡ take n after ++ drop n left) × (y.bytes ≡ Some (drop n left)) × (n ≡ 0 → 0 < room → left ≡ []))
+    → IfSome o (λ left. y.bytes ≡ Some (drop n left))
 lost_some None after n room y h = tt
 lost_some (Some left) after n room y h = h.1
 
@@ -107,9 +108,9 @@ tells_or (Some left) bytes = refl
 
 -- the bytes are the first of what the source had
 front_of : (o : Option (List ℕ)) (bytes : List ℕ) (v : StreamView) (most : ℕ) → length bytes ≤ most
-  → IfSome o (λ left. (left ≡ bytes ++ drop (length bytes) left) × (v.bytes ≡ Some (drop (length bytes) left)))
-  → ((most ≤ length bytes) ⊎ IfSome o (λ left. left ≡ bytes))
-  → bytes ≡ take most (told_or o bytes)
+    → IfSome o (λ left. (left ≡ bytes ++ drop (length bytes) left) × (v.bytes ≡ Some (drop (length bytes) left)))
+    → ((most ≤ length bytes) ⊎ IfSome o (λ left. left ≡ bytes))
+    → bytes ≡ take most (told_or o bytes)
 front_of None bytes v most le h e = sym (take_all most bytes le)
 front_of (Some left) bytes v most le h (inl ge) =
     let same : length bytes ≡ most = omega arith in
@@ -117,13 +118,13 @@ front_of (Some left) bytes v most le h (inl ge) =
 front_of (Some left) bytes v most le h (inr e) = sym (ap (λ t. take most t) e ∙ take_all most bytes le)
 
 left_of : (o : Option (List ℕ)) (bytes : List ℕ) (v : StreamView)
-  → IfSome o (λ left. (left ≡ bytes ++ drop (length bytes) left) × (v.bytes ≡ Some (drop (length bytes) left)))
-  → IfSome o (λ left. v.bytes ≡ Some (drop (length bytes) (told_or o bytes)))
+    → IfSome o (λ left. (left ≡ bytes ++ drop (length bytes) left) × (v.bytes ≡ Some (drop (length bytes) left)))
+    → IfSome o (λ left. v.bytes ≡ Some (drop (length bytes) (told_or o bytes)))
 left_of None bytes v h = tt
 left_of (Some left) bytes v h = h.1
 
 pub takes_all : (most : ℕ) (bytes : List ℕ) (a b : StreamView) → length bytes ≤ most → HasTaken bytes a b → (most ≡ 0 → b ≡ a)
-  → ((most ≤ length bytes) ⊎ IfSome a.bytes (λ left. left ≡ bytes)) → Takes most (Ok bytes) a b
+    → ((most ≤ length bytes) ⊎ IfSome a.bytes (λ left. left ≡ bytes)) → Takes most (Ok bytes) a b
 takes_all most bytes a b le h idle e = record {
   left = told_or a.bytes bytes;
   told = tells_or a.bytes bytes;
@@ -136,8 +137,8 @@ takes_all most bytes a b le h idle e = record {
 
 -- nothing more is left
 pub none_left : (o : Option (List ℕ)) (bytes piece : List ℕ) (b c : StreamView)
-  → IfSome o (λ left. (left ≡ bytes ++ drop (length bytes) left) × (b.bytes ≡ Some (drop (length bytes) left)))
-  → TakesPiece piece b c → piece ≡ [] → IfSome o (λ left. left ≡ bytes ++ piece)
+    → IfSome o (λ left. (left ≡ bytes ++ drop (length bytes) left) × (b.bytes ≡ Some (drop (length bytes) left)))
+    → TakesPiece piece b c → piece ≡ [] → IfSome o (λ left. left ≡ bytes ++ piece)
 none_left None bytes piece b c h p e = tt
 none_left (Some left) bytes piece b c h p e =
     let P : Option (List ℕ) → Type 0 = λ o. IfSome o (λ left. (left ≡ piece ++ drop (length piece) left) × (c.bytes ≡ Some (drop (length piece) left)) × (piece ≡ [] → left ≡ [])) in
@@ -145,9 +146,9 @@ none_left (Some left) bytes piece b c h p e =
     h.0 ∙ ap (λ t. bytes ++ t) (q.2 e ∙ sym e)
 
 same_left : (o : Option (List ℕ)) (bytes : List ℕ) (b c : StreamView)
-  → IfSome o (λ left. (left ≡ bytes ++ drop (length bytes) left) × (b.bytes ≡ Some (drop (length bytes) left)))
-  → c.bytes ≡ b.bytes
-  → IfSome o (λ left. c.bytes ≡ Some (drop (length bytes) (told_or o bytes)))
+    → IfSome o (λ left. (left ≡ bytes ++ drop (length bytes) left) × (b.bytes ≡ Some (drop (length bytes) left)))
+    → c.bytes ≡ b.bytes
+    → IfSome o (λ left. c.bytes ≡ Some (drop (length bytes) (told_or o bytes)))
 same_left None bytes b c h e = tt
 same_left (Some left) bytes b c h e = e ∙ h.1
 
@@ -159,9 +160,9 @@ takes_failed most bytes a b c lt h same f = record {
 }
 
 pub lost_left : (o : Option (List ℕ)) (bytes : List ℕ) (n : ℕ) (b c : StreamView)
-  → IfSome o (λ left. (left ≡ bytes ++ drop (length bytes) left) × (b.bytes ≡ Some (drop (length bytes) left)))
-  → HasTakenMore n b c
-  → IfSome o (λ left. c.bytes ≡ Some (drop (length bytes + n) (told_or o bytes)))
+    → IfSome o (λ left. (left ≡ bytes ++ drop (length bytes) left) × (b.bytes ≡ Some (drop (length bytes) left)))
+    → HasTakenMore n b c
+    → IfSome o (λ left. c.bytes ≡ Some (drop (length bytes + n) (told_or o bytes)))
 lost_left None bytes n b c h p = tt
 lost_left (Some left) bytes n b c h p =
     let P : Option (List ℕ) → Type 0 = λ o. IfSome o (λ left. c.bytes ≡ Some (drop n left)) in

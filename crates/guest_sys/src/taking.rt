@@ -11,11 +11,7 @@ use std::alloc::Global;
 const PIECE: usize = 4096;
 
 /// Takes a piece of at most `room` bytes behind the others, and answers whether there was one.
-fn take_piece<I: Source>(
-    input: &mut I,
-    bytes: &mut Vec<u8>,
-    room: usize,
-) -> Result<bool, SysError>
+fn take_piece<I: Source>(input: &mut I, bytes: &mut Vec<u8>, room: usize) -> Result<bool, SysError>
     requires some { 0 < room }
     requires fits { room ≤ PIECE }
     ensures { AddsPiece room result bytes.old.items bytes.new.items (I.seen input.old) (I.seen input.new) }
@@ -33,11 +29,7 @@ fn take_piece<I: Source>(
 }
 
 /// Takes bytes until there are `most`, or until the input has no more.
-pub fn take_up_to<I: Source>(
-    alloc: Global,
-    input: &mut I,
-    most: u32,
-) -> Result<Vec<u8>, SysError>
+pub fn take_up_to<I: Source>(alloc: Global, input: &mut I, most: u32) -> Result<Vec<u8>, SysError>
     ensures { Takes most (result_map_both (λ v. v.items) (λ e. e) result) (I.seen input.old) (I.seen input.new) }
 {
     let wanted = most as usize;

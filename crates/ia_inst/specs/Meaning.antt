@@ -9,7 +9,7 @@ use Rattle.br_word.specs.declared.flags.Shifted.{Shifted}
 use Rattle.br_word.specs.Words as words
 use Rattle.br_word.specs.Words.{bits_of, size_of, bit, signed, sign_bit}
 use Rattle.br_word.specs.Flags.{differ, logic_result, add_result, sub_result, shift_of}
-use Rattle.br_word.specs.State.{Flag, CF, PF, ZF, SF, OF}
+use Rattle.br_word.specs.State.{CF, PF, ZF, SF, OF}
 use Rattle.ia_inst.specs.declared.inst.Addr.{Addr}
 use Rattle.ia_inst.specs.declared.inst.Rm.{Rm}
 use Rattle.ia_inst.specs.declared.inst.Rm.TheVariants.{Reg, Mem}
@@ -20,7 +20,7 @@ use Rattle.ia_inst.specs.declared.inst.Count.TheVariants as count
 use Rattle.ia_inst.specs.declared.inst.Inst.{Inst}
 use Rattle.ia_inst.specs.declared.inst.Inst.TheVariants.{Alu, Test, Mov, Lea, Xchg, Inc, Dec, Not, Neg, Push, Pop, MulDiv, Imul, Shift, Rotate, Cwde, Cdq, Extend, Setcc, Cmov, Jcc, Jmp, JmpRm, Call, CallRm, Ret, Leave, Movs, Stos, Cld, Std, Sahf, Int80, Nop}
 use Rattle.ia_inst.specs.Wide.{rotated_left, rotated_right, product, signed_product, product_overflows, quotient, signed_quotient}
-use Rattle.ia_inst.specs.Act.{Change, Keeps, Becomes, IsLeft, Changes, Place, Past, Again, To, Act, Load, Store, Ask, Divides, Calls, Ends}
+use Rattle.ia_inst.specs.Act.{Change, Keeps, Becomes, IsLeft, Changes, Past, Again, To, Act, Load, Store, Ask, Divides, Calls, Ends}
 
 -- addresses and counters go round at 2 ^ 32
 abbrev pub wrap : ℕ → ℕ

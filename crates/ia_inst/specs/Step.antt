@@ -1,7 +1,6 @@
 -- One step of the guest: one instruction, or one iteration of a repeated string instruction.
 use Rattle.std.specs.Prelude.{◌≡◌, ℕ, ◌+◌, List, [], ◌∷◌, Option, Some, None, true}
 use Rattle.br_word.specs.declared.types.Flags.{Flags}
-use Rattle.br_word.specs.declared.types.GuestFault.{GuestFault}
 use Rattle.br_word.specs.declared.types.GuestFault.TheVariants.{Access, Illegal, Divide}
 use Rattle.br_word.specs.Memory.{Region, Runs, bytes_at}
 use Rattle.br_word.specs.State.{State, Stop, Running, Exited, Faulted, Flag, flag_of}

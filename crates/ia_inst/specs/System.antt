@@ -3,7 +3,7 @@ use Rattle.std.specs.Prelude.{ℕ, ◌+◌, ◌-◌, ◌%◌, ◌^◌, nat_eq, n
 use Rattle.br_word.specs.declared.types.GuestFault.{GuestFault}
 use Rattle.br_word.specs.declared.types.GuestFault.TheVariants.{Access}
 use Rattle.br_word.specs.Memory.{Region, Reads, bytes_at, written, resized}
-use Rattle.br_word.specs.State.{Cpu, State, Exited}
+use Rattle.br_word.specs.State.{State, Exited}
 
 -- where a step leads: on to a state, or to a fault
 pub data Way : Type 0 where

@@ -82,7 +82,12 @@ fn registers_and_flags(rt: HostRuntime) -> Result<(), Fail> {
     for row in [
         // a count of 64 is one of 0: nothing changes
         Row {
-            i: Inst::Shift { op: ShiftOp::Shl, w: Width::B8, dst: al, count: Count::Cl },
+            i: Inst::Shift {
+                op: ShiftOp::Shl,
+                w: Width::B8,
+                dst: al,
+                count: Count::Cl,
+            },
             regs: [0x81, 0x40, 0, 0, 0, 0, 0, 0],
             flags: 0x1F,
             new_regs: [0x81, 0x40, 0, 0, 0, 0, 0, 0],
@@ -91,7 +96,12 @@ fn registers_and_flags(rt: HostRuntime) -> Result<(), Fail> {
         },
         // a byte shifted by 9: CF is undefined too
         Row {
-            i: Inst::Shift { op: ShiftOp::Shl, w: Width::B8, dst: al, count: Count::Imm(9) },
+            i: Inst::Shift {
+                op: ShiftOp::Shl,
+                w: Width::B8,
+                dst: al,
+                count: Count::Imm(9),
+            },
             regs: [0x81, 0, 0, 0, 0, 0, 0, 0],
             flags: 0x1F,
             new_regs: [0, 0, 0, 0, 0, 0, 0, 0],
@@ -99,7 +109,12 @@ fn registers_and_flags(rt: HostRuntime) -> Result<(), Fail> {
             new_known: 0x0E,
         },
         Row {
-            i: Inst::Shift { op: ShiftOp::Sar, w: Width::B32, dst: al, count: Count::Imm(31) },
+            i: Inst::Shift {
+                op: ShiftOp::Sar,
+                w: Width::B32,
+                dst: al,
+                count: Count::Imm(31),
+            },
             regs: [0x8000_0000, 0, 0, 0, 0, 0, 0, 0],
             flags: 0,
             new_regs: [0xFFFF_FFFF, 0, 0, 0, 0, 0, 0, 0],
@@ -107,7 +122,11 @@ fn registers_and_flags(rt: HostRuntime) -> Result<(), Fail> {
             new_known: 0x0F,
         },
         Row {
-            i: Inst::Rotate { right: false, dst: al, count: Count::Imm(1) },
+            i: Inst::Rotate {
+                right: false,
+                dst: al,
+                count: Count::Imm(1),
+            },
             regs: [0x8000_0000, 0, 0, 0, 0, 0, 0, 0],
             flags: 0,
             new_regs: [1, 0, 0, 0, 0, 0, 0, 0],
@@ -116,7 +135,10 @@ fn registers_and_flags(rt: HostRuntime) -> Result<(), Fail> {
         },
         // CF stays
         Row {
-            i: Inst::Inc { w: Width::B8, dst: al },
+            i: Inst::Inc {
+                w: Width::B8,
+                dst: al,
+            },
             regs: [0x12FF, 0, 0, 0, 0, 0, 0, 0],
             flags: 1,
             new_regs: [0x1200, 0, 0, 0, 0, 0, 0, 0],
@@ -125,7 +147,11 @@ fn registers_and_flags(rt: HostRuntime) -> Result<(), Fail> {
         },
         // al and ah
         Row {
-            i: Inst::Xchg { w: Width::B8, dst: al, reg: 4 },
+            i: Inst::Xchg {
+                w: Width::B8,
+                dst: al,
+                reg: 4,
+            },
             regs: [0x1234, 0, 0, 0, 0, 0, 0, 0],
             flags: 0x15,
             new_regs: [0x3412, 0, 0, 0, 0, 0, 0, 0],
@@ -158,7 +184,10 @@ fn registers_and_flags(rt: HostRuntime) -> Result<(), Fail> {
             new_known: 0,
         },
         Row {
-            i: Inst::Movs { w: Width::B32, rep: true },
+            i: Inst::Movs {
+                w: Width::B32,
+                rep: true,
+            },
             regs: [0, 0, 0, 0, 0, 0, 1, 2],
             flags: 0,
             new_regs: [0, 0, 0, 0, 0, 0, 1, 2],
@@ -187,7 +216,10 @@ fn memory_and_faults(rt: HostRuntime) -> Result<(), Fail> {
 
     // the destination takes the stack pointer as it is afterwards
     let mut cpu = processor([0, 0, 0, 0, DATA, 0, 0, 0], 0);
-    assert_eq!(rt; step(&Inst::Pop { dst: at_esp }, &mut cpu, &mut memory), Some(Outcome::Next));
+    assert_eq!(rt;
+        step(&Inst::Pop { dst: at_esp }, &mut cpu, &mut memory),
+        Some(Outcome::Next)
+    );
     assert_eq!(rt; cpu.regs[4], DATA + 4);
     assert_eq!(rt; memory.load(DATA + 4, Width::B32), Some(0x0403_0201));
 
@@ -224,7 +256,10 @@ fn memory_and_faults(rt: HostRuntime) -> Result<(), Fail> {
     assert_eq!(rt; step(&divided, &mut cpu, &mut memory), fault);
     assert_eq!(rt; cpu, processor(before, 0x0A));
 
-    assert_eq!(rt; step(&Inst::Int80, &mut cpu, &mut memory), Some(Outcome::Trap));
+    assert_eq!(rt;
+        step(&Inst::Int80, &mut cpu, &mut memory),
+        Some(Outcome::Trap)
+    );
     assert_eq!(rt; cpu.eip, 0x1002);
     Ok(())
 }

@@ -4,7 +4,7 @@ use Rattle.std.proofs.lemmas.Result.{err_from_is_err_and}
 use Rattle.elf_read.specs.Elf.{lowest, end_of_last, round_up, elf}
 use Rattle.elf_read.proofs.Accepted.{accepted_exe}
 use Rattle.elf_read.proofs.Parts.{last_bound}
-use Rattle.elf_read.proofs.Result.{refused_early, refused_late, fields_now, the_exe}
+use Rattle.elf_read.proofs.Result.{refused_early, refused_late, accepted_now, fields_now, the_exe}
 use Rattle.elf_read.proofs.read.read_elf.Goals as goal
 
 pub returns-in_err-table-clause-read : goal.returns-in_err-table-clause-read
@@ -16,6 +16,11 @@ pub returns-in_err-check_table-clause-read : goal.returns-in_err-check_table-cla
 returns-in_err-check_table-clause-read c =
     let p = err_from_is_err_and c.from_residual-in_err-check_table.result c.from_residual-in_err-check_table.ensures.1 in
     rw (p.1, p.2) (refused_late c.args.reach c.args.bytes.now _ c.in_ok-table.ensures.refused c.in_err-check_table.ensures)
+
+pub returns-in_err-segments-clause-read : goal.returns-in_err-segments-clause-read
+returns-in_err-segments-clause-read c =
+    let p = err_from_is_err_and c.from_residual-in_err-segments.result c.from_residual-in_err-segments.ensures.1 in
+    rw (p.1, p.2) ((_, accepted_now c.args.reach c.args.bytes.now c.in_ok-table.ensures.refused c.in_ok-check_table.ensures))
 
 pub heap_start-requires : goal.heap_start-requires
 heap_start-requires c =

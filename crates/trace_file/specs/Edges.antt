@@ -1,0 +1,34 @@
+-- Control-flow edges, and lists of them in order.
+use Rattle.std.specs.Prelude.{◌≡◌, ℕ, ◌≤◌, ◌<◌, ◌^◌, Bool, true, ◌||◌, ◌&&◌, nat_eq, nat_lt, if◌then◌else◌, List, [], ◌∷◌, length}
+
+-- the address of a transfer, the site, and the address that it led to, the target
+abbrev pub Edge : Type 0
+Edge = ℕ × ℕ
+
+-- by the site, and then by the target
+abbrev pub before : Edge → Edge → Bool
+before a b = nat_lt a.0 b.0 || (nat_eq a.0 b.0 && nat_lt a.1 b.1)
+
+-- the list ascends strictly, from an edge before it on
+abbrev pub ascends_after : Edge → List Edge → Bool
+ascends_after a [] = true
+ascends_after a (b ∷ bs) = before a b && ascends_after b bs
+
+abbrev pub ascends : List Edge → Bool
+ascends [] = true
+ascends (a ∷ es) = ascends_after a es
+
+-- a list that a set of edges may have
+pub record IsEdges (es : List Edge) : Type 0 where
+  pub order : ascends es ≡ true
+  pub count : length es ≤ 16777216
+
+-- an edge put before the rest, or where it belongs in the other list
+abbrev pub step : Edge → (List Edge → List Edge) → List Edge → List Edge
+step a rest [] = a ∷ rest []
+step a rest (b ∷ bs) = if before a b then (a ∷ rest (b ∷ bs)) else (if before b a then (b ∷ step a rest bs) else (a ∷ rest bs))
+
+-- two ascending lists as one
+abbrev pub merge : List Edge → List Edge → List Edge
+merge [] bs = bs
+merge (a ∷ es) bs = step a (merge es) bs

@@ -1,0 +1,22 @@
+//! Sets of control-flow edges, and the trace files that keep them (docs/TRACES.md).
+#![tactic(auto)]
+
+mod check;
+mod edges;
+mod error;
+mod field;
+mod hash;
+mod law;
+mod order;
+mod read;
+mod write;
+
+pub use edges::Edges;
+pub use error::TraceError;
+pub use hash::digest;
+pub use law::read_back;
+pub use read::read_trace;
+pub use write::write_trace;
+
+#[cfg(test)]
+mod tests;
