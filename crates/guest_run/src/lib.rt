@@ -1,2 +1,13 @@
 //! Bounded runs of a guest.
 #![tactic(auto)]
+
+mod advance;
+mod arguments;
+mod guest;
+mod stop;
+
+pub use advance::{Advanced, Code};
+pub use arguments::args_fit;
+pub use guest::Guest;
+pub use guest_sys::SysError;
+pub use stop::Stop;

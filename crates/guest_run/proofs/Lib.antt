@@ -1,0 +1,10 @@
+pub mod NoCall
+pub mod Ways
+pub mod Codes
+pub mod Trapped
+pub mod Carried
+pub mod Stepped
+pub mod Shown
+pub mod Composed
+pub mod Whole
+pub mod Texts

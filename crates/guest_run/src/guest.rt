@@ -1,0 +1,158 @@
+//! A guest and its steps.
+ghost use Rattle.std.specs.Prelude.{◌≡◌, ◌+◌, ◌<◌, ◌≤◌, ◌^◌, true, IsTrue, ◌↔◌};
+ghost use Rattle.guest_sys.specs.Streams.{Streams};
+ghost use Rattle.guest_run.specs.Guest.{Steps, Runs, streams};
+
+use crate::advance::advance;
+use crate::stop::Stop;
+use br_outside::{Sink, Source};
+use guest_mem::Memory;
+use guest_sys::SysError;
+use ia_meaning::Cpu;
+use std::alloc::Global;
+use std::marker::Model;
+
+/// A guest: its processor, its memory, and how far it has come.
+#[derive(Drop)]
+pub struct Guest {
+    alloc: Global,
+    cpu: Cpu,
+    memory: Memory,
+    // `Budget` while it runs.
+    stop: Stop,
+    steps: u64,
+    edge: Option<(u32, u32)>,
+    live: bool,
+}
+
+impl Model for Guest {
+    ghost use Rattle.std.specs.Prelude.{◌≤◌};
+    ghost use Rattle.guest_run.specs.Guest.{GuestView, view_of};
+
+    ghost Value = { GuestView };
+
+    ghost view = { λ g. view_of g.cpu g.memory g.stop g.steps g.edge g.live };
+
+    ghost invariant = { λ g. g.cpu.undefined ≤ g.steps };
+}
+
+fn is_running(stop: Stop) -> bool
+    ensures { IsTrue result ↔ (stop ≡ Stop.Budget) }
+{
+    match stop {
+        Stop::Budget => true,
+        Stop::Exited(_) => false,
+        Stop::Fault(_) => false,
+    }
+}
+
+impl Guest {
+    /// Whether the guest may take steps: no step has failed.
+    pub fn live(&self) -> bool
+        ensures { result ≡ self.now.live }
+    {
+        self.live
+    }
+
+    /// The address of the next instruction.
+    pub fn eip(&self) -> u32
+        ensures { result ≡ self.now.state.eip }
+    {
+        self.cpu.eip
+    }
+
+    /// The address of the instruction of the last step and the address to which it led, if it was a
+    /// transfer and did not fault.
+    pub fn edge(&self) -> Option<(u32, u32)>
+        ensures { result ≡ self.now.edge }
+    {
+        self.edge
+    }
+
+    /// How many steps were taken.
+    pub fn steps(&self) -> u64
+        ensures { result ≡ self.now.steps }
+    {
+        self.steps
+    }
+
+    /// How many of the steps read a flag that was not defined.
+    pub fn undefined(&self) -> u64
+        ensures { result ≡ self.now.undefined }
+    {
+        self.cpu.undefined
+    }
+
+    /// Takes a step, and answers true; a guest that has stopped takes none, and the answer is false.
+    ///
+    /// Flags that the step leaves undefined take their values from bits 0 to 4 of `choice`. A read
+    /// takes its bytes of `input`, and a write gives them to `out` (descriptor 1) or `err`
+    /// (descriptor 2).
+    ///
+    /// Errors come only where int 0x80 stands at eip and eax is 3, 4 or 45: `Input`, `Out` and
+    /// `Report` where that object failed, `Memory` where memory ran out. The guest is then as before,
+    /// but it is not live any more, and a front part of the bytes of the call may have been taken or
+    /// written.
+    pub fn step<I: Source, O: Sink, E: Sink>(
+        &mut self,
+        choice: u8,
+        input: &mut I,
+        out: &mut O,
+        err: &mut E,
+    ) -> Result<bool, SysError>
+        requires live { self.old.live ≡ true }
+        requires room { self.old.steps < 10 ^ 18 }
+        ensures { Steps result choice self.old self.new (streams (I.seen input.old) (O.seen out.old) (E.seen err.old)) (streams (I.seen input.new) (O.seen out.new) (E.seen err.new)) }
+    {
+        if !is_running(self.stop) {
+            return Ok(false);
+        }
+        match advance(
+            self.alloc,
+            &mut self.cpu,
+            &mut self.memory,
+            choice,
+            input,
+            out,
+            err,
+        ) {
+            Err(error) => {
+                self.live = false;
+                Err(error)
+            }
+            Ok(advanced) => {
+                self.stop = advanced.stop;
+                self.edge = advanced.edge;
+                self.steps += 1;
+                Ok(true)
+            }
+        }
+    }
+
+    /// Takes steps with the choice 0 until the guest stops, `budget` of them at most, and answers how
+    /// it stands then: `Budget` exactly where it still runs, and then it has taken all of them.
+    ///
+    /// Errors are those of the step that failed. The guest is then as before that step, but it is not
+    /// live any more.
+    pub fn run<I: Source, O: Sink, E: Sink>(
+        &mut self,
+        budget: u64,
+        input: &mut I,
+        out: &mut O,
+        err: &mut E,
+    ) -> Result<Stop, SysError>
+        requires live { self.old.live ≡ true }
+        requires room { self.old.steps + budget ≤ 10 ^ 18 }
+        ensures { Runs result budget self.old self.new (streams (I.seen input.old) (O.seen out.old) (E.seen err.old)) (streams (I.seen input.new) (O.seen out.new) (E.seen err.new)) }
+    {
+        let _live = self.live;
+        for _step in 0..budget {
+            match self.step(0, input, out, err) {
+                Err(error) => return Err(error),
+                Ok(false) => return Ok(self.stop),
+                Ok(true) => {}
+            }
+        }
+        Ok(self.stop)
+    }
+}
