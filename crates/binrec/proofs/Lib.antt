@@ -2,6 +2,9 @@ pub mod Plans
 pub mod Addresses
 pub mod Fitting
 pub mod Turning
+pub mod Sparing
+pub mod Ending
+pub mod Runnings
 pub mod Ends
 pub mod Courses
 pub mod Meanings

@@ -36,7 +36,7 @@ stood g a f line n u w is steps undefined finish text =
 -- ---- what a plan of steps comes to
 
 -- a guest that runs takes a turn
-runs : (n : ℕ) (g : GuestView) → g.state.stop ≡ Running → guest_plan (suc n) g ≡ Turns (next_turn g) (λ left. guest_plan n (next_guest g left))
+pub runs : (n : ℕ) (g : GuestView) → g.state.stop ≡ Running → guest_plan (suc n) g ≡ Turns (next_turn g) (λ left. guest_plan n (next_guest g left))
 unfolding guest_plan
 runs n g is = ap (λ s. while_running s (Turns (next_turn g) (λ left. guest_plan n (next_guest g left))) (stands g)) is
 
@@ -49,7 +49,7 @@ pub none_left : (g : GuestView) → guest_plan 0 g ≡ stands g
 unfolding guest_plan
 none_left g = refl
 
-has_stopped : (n : ℕ) (g : GuestView) → (g.state.stop ≡ Running → ⊥) → guest_plan n g ≡ stands g
+pub has_stopped : (n : ℕ) (g : GuestView) → (g.state.stop ≡ Running → ⊥) → guest_plan n g ≡ stands g
 unfolding guest_plan
 has_stopped zero g not = refl
 has_stopped (suc n) g not = stopped_plan g.state.stop _ _ not

@@ -11,7 +11,7 @@ use Rattle.sim_laws.specs.Preserves.{Preserves}
 use Rattle.binrec.specs.Plans.World.{World}
 use Rattle.binrec.specs.Plans.Texts.{cause_text, object_text}
 use Rattle.binrec.specs.Plans.Told.{HasFailed}
-use Rattle.binrec.specs.Words.{command}
+use Rattle.binrec.specs.Words.{asked_by}
 use Rattle.binrec.specs.Commands.{built_line}
 use Rattle.binrec.specs.declared.acts.stop.Cause.TheVariants.{Usage, RefusedWord, Limited}
 use Rattle.binrec.specs.declared.acts.stop.Object.TheVariants as objects
@@ -71,6 +71,6 @@ pub record MeansBuild (name original : List ℕ) (s : World) (result : ℕ) (t :
 
 -- What is done where the words are no command: nothing but a line to the report.
 pub record MeansUsage (words : List (List ℕ)) (s : World) (result : ℕ) (t : World) : Type 0 where
-  pub only : result ≡ 1 → (at : ℕ) × (command words ≡ Err at) × Says (cause_text (Usage at)) s t
-  pub status : (at : ℕ) → command words ≡ Err at → (result ≡ 1) ⊎ ((result ≡ 4) ⊎ ((result ≡ 3) × HasFailed objects.Report s t))
-  pub alone : (at : ℕ) → command words ≡ Err at → (t.shelf ≡ s.shelf) × (t.input ≡ s.input) × (t.out ≡ s.out)
+  pub only : result ≡ 1 → (at : ℕ) × (asked_by words ≡ Err at) × Says (cause_text (Usage at)) s t
+  pub status : (at : ℕ) → asked_by words ≡ Err at → (result ≡ 1) ⊎ ((result ≡ 4) ⊎ ((result ≡ 3) × HasFailed objects.Report s t))
+  pub alone : (at : ℕ) → asked_by words ≡ Err at → (t.shelf ≡ s.shelf) × (t.input ≡ s.input) × (t.out ≡ s.out)
