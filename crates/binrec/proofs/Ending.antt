@@ -14,7 +14,7 @@ use Rattle.binrec.specs.Plans.Texts.{End}
 use Rattle.binrec.specs.Plans.Plan.{Plan}
 use Rattle.binrec.specs.Plans.Told.{Ending, ends_with, turned_before, expected}
 use Rattle.binrec.specs.Guests.{guest_plan, next_guest, next_turn, stands, finished}
-use Rattle.binrec.proofs.Turning.{has_stopped, runs}
+use Rattle.binrec.proofs.Turning.{has_stopped, runs, none_left}
 
 -- how the turns of a guest end: as its run of n steps from s does
 pub record EndsAs (n : ℕ) (g : GuestView) (s : State) (files : Files) (e : Ending) : Type 0 where
@@ -134,16 +134,26 @@ turn_ends n g files left e running h =
       reported = ap (λ x. t.err ++ x) h.reported ∙ sym (ap (λ t. t.err) u);
     }
 
+-- the next step, where there is one
+next_ends : (n : ℕ) (g : GuestView) (files : Files) (left : List ℕ) → IsBare g
+    → ((h : GuestView) (left : List ℕ) → IsBare h → EndsAs n h (fed left h.state) files (expected (guest_plan n h) files left))
+    → (x : Stop) → g.state.stop ≡ x → EndsAs (suc n) g (fed left g.state) files (expected (guest_plan (suc n) g) files left)
+unfolding expected
+next_ends n g files left h rest Running at =
+    let P : Plan → Type 0 = λ p. EndsAs (suc n) g (fed left g.state) files (expected p files left) in
+    subst P (sym (runs n g at)) (turn_ends n g files left _ at (rest (next_guest g left) (step (fed left g.state) 0).input (record { out = refl; err = refl })))
+next_ends n g files left h rest (Exited k) at =
+    let P : Plan → Type 0 = λ p. EndsAs (suc n) g (fed left g.state) files (expected p files left) in
+    let not : g.state.stop ≡ Running → ⊥ = λ r. (let z : Exited k ≡ Running = sym at ∙ r in cc) in
+    subst P (sym (has_stopped (suc n) g not)) (stopped_end n g files left h not)
+next_ends n g files left h rest (Faulted f) at =
+    let P : Plan → Type 0 = λ p. EndsAs (suc n) g (fed left g.state) files (expected p files left) in
+    let not : g.state.stop ≡ Running → ⊥ = λ r. (let z : Faulted f ≡ Running = sym at ∙ r in cc) in
+    subst P (sym (has_stopped (suc n) g not)) (stopped_end n g files left h not)
+
 -- The turns of a guest end as its run does.
 pub ends_as : (n : ℕ) (g : GuestView) (files : Files) (left : List ℕ) → IsBare g → EndsAs n g (fed left g.state) files (expected (guest_plan n g) files left)
-unfolding expected guest_plan
-ends_as zero g files left h = at_end g files left h
-ends_as (suc n) g files left h = by_stop g.state.stop refl
-  where
-    P : Plan → Type 0
-    P p = EndsAs (suc n) g (fed left g.state) files (expected p files left)
-    by_stop : (x : Stop) → g.state.stop ≡ x → P (guest_plan (suc n) g)
-    unfolding P
-    by_stop Running at = subst P (sym (runs n g at)) (turn_ends n g files left _ at (ends_as n (next_guest g left) files (step (fed left g.state) 0).input (record { out = refl; err = refl })))
-    by_stop (Exited k) at = subst P (sym (has_stopped (suc n) g (λ r. (let z : Exited k ≡ Running = sym at ∙ r in cc)))) (stopped_end n g files left h (λ r. (let z : Exited k ≡ Running = sym at ∙ r in cc)))
-    by_stop (Faulted f) at = subst P (sym (has_stopped (suc n) g (λ r. (let z : Faulted f ≡ Running = sym at ∙ r in cc)))) (stopped_end n g files left h (λ r. (let z : Faulted f ≡ Running = sym at ∙ r in cc)))
+ends_as zero g files left h =
+    let P : Plan → Type 0 = λ p. EndsAs zero g (fed left g.state) files (expected p files left) in
+    subst P (sym (none_left g)) (at_end g files left h)
+ends_as (suc n) g files left h = next_ends n g files left h (λ g left h. ends_as n g files left h) g.state.stop refl

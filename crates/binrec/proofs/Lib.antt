@@ -4,6 +4,7 @@ pub mod Fitting
 pub mod Turning
 pub mod Sparing
 pub mod Ending
+pub mod RunMeant
 pub mod Runnings
 pub mod Ends
 pub mod Courses

@@ -9,13 +9,14 @@ use Rattle.binrec.specs.Plans.Told.{IsExact, IsComplete, HasCause}
 use Rattle.word_reader.specs.Words.{Asked, Builds, Runs}
 use Rattle.binrec.specs.Words.{asked_by, word_of_guest}
 use Rattle.binrec.specs.Commands.{asked_plan, of_command, plan, run_plan}
-use Rattle.binrec.specs.Meaning.{MeansBuild, MeansUsage}
+use Rattle.binrec.specs.Meaning.{MeansBuild, MeansRun, MeansUsage}
 use Rattle.binrec.specs.declared.acts.stop.Stop.{Stop}
 use Rattle.binrec.specs.declared.acts.stop.Stop.TheVariants.{Because}
 use Rattle.binrec.specs.declared.acts.stop.Cause.TheVariants.{Usage}
 use Rattle.binrec.proofs.Plans.Runs.{ended}
 use Rattle.binrec.proofs.Plans.Finish.{exact, complete, cause}
 use Rattle.binrec.proofs.Sparing.{sparing}
+use Rattle.binrec.proofs.RunMeant.{means_run}
 use Rattle.binrec.proofs.Meanings.{Law, means_build, means_usage}
 
 pub no_command : (words : List (List ℕ)) (at : ℕ) (s : World) → asked_by words ≡ Err at → Went (plan words) s (Err (Because (Usage at))) s
@@ -41,6 +42,7 @@ pub record AllOf (words : List (List ℕ)) (s : World) (result : ℕ) (t : World
   pub complete : IsComplete (plan words) s result t
   pub cause : HasCause s result t
   pub usage : MeansUsage words s result t
+  pub run : (steps : ℕ) (name : List ℕ) (args : List (List ℕ)) → asked_by words ≡ Ok (Runs steps name args) → MeansRun steps name args (word_of_guest words) s result t
   pub build : (name original : List ℕ) → asked_by words ≡ Ok (Builds name original []) → MeansBuild name original s result t
 
 pub all_of : (words : List (List ℕ)) (s : World) (result : ℕ) (t : World) → Law → Happened (plan words) s result t → AllOf words s result t
@@ -50,5 +52,6 @@ all_of words s result t law h = record {
   complete = complete (plan words) s result t (sparing words) h;
   cause = cause (plan words) s result t h;
   usage = means_usage words s result t law h;
+  run = λ steps name args asked. means_run words steps name args s result t (exact (plan words) s result t (sparing words) h) asked;
   build = λ name original asked. means_build words name original s result t law h asked;
 }

@@ -4,10 +4,10 @@ ghost use Rattle.binrec.specs.Plans.World.{world};
 ghost use Rattle.binrec.specs.Plans.Plan.{Went};
 ghost use Rattle.binrec.specs.Plans.Happened.{Happened};
 ghost use Rattle.binrec.specs.Plans.Told.{IsExact, IsComplete, HasCause};
-ghost use Rattle.word_reader.specs.Words.{Builds};
-ghost use Rattle.binrec.specs.Words.{asked_by};
+ghost use Rattle.word_reader.specs.Words.{Builds, Runs};
+ghost use Rattle.binrec.specs.Words.{asked_by, word_of_guest};
 ghost use Rattle.binrec.specs.Commands.{plan, end_of};
-ghost use Rattle.binrec.specs.Meaning.{MeansBuild, MeansUsage};
+ghost use Rattle.binrec.specs.Meaning.{MeansBuild, MeansRun, MeansUsage};
 
 use crate::acts::report::{tell, tell_stop};
 use crate::acts::stop::{Cause, Outcome, Stop};
@@ -94,6 +94,9 @@ pub fn binrec<F: Shelf, I: Source, O: Sink, R: Sink>(
         (world (F.seen shelf.old) (I.seen input.old) (O.seen out.old) (R.seen report.old)) result.0
         (world (F.seen shelf.new) (I.seen input.new) (O.seen out.new) (R.seen report.new)) }
     ensures build { (name original : List ℕ) → asked_by (map string_bytes words.now) ≡ Ok (Builds name original []) → MeansBuild name original
+        (world (F.seen shelf.old) (I.seen input.old) (O.seen out.old) (R.seen report.old)) result.0
+        (world (F.seen shelf.new) (I.seen input.new) (O.seen out.new) (R.seen report.new)) }
+    ensures run { (steps : ℕ) (name : List ℕ) (args : List (List ℕ)) → asked_by (map string_bytes words.now) ≡ Ok (Runs steps name args) → MeansRun steps name args (word_of_guest (map string_bytes words.now))
         (world (F.seen shelf.old) (I.seen input.old) (O.seen out.old) (R.seen report.old)) result.0
         (world (F.seen shelf.new) (I.seen input.new) (O.seen out.new) (R.seen report.new)) }
 {
