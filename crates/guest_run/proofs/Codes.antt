@@ -12,24 +12,22 @@ use Rattle.guest_run.specs.declared.advance.Code.TheVariants as code
 use Rattle.guest_run.specs.Advance.{IsFound}
 
 -- the first bytes tell what all of them do
-pub code_found : (o : Option (List ℕ)) (count : ℕ) (old new : List ℕ) (r : Option (Inst × ℕ)) → count ≡ length (fetched o) → new ≡ fetched o ++ drop count old → (o ≡ None → ⊥) → IfSome o IsBytes
+pub code_found : (o : Option (List ℕ)) (count : ℕ) (old new : List ℕ) (r : Option (Inst × ℕ)) → count ≡ length (fetched o) → new ≡ fetched o ++ drop count old → (o ≡ None → ⊥)
     → r ≡ decode_of (take count new) → found_in o ≡ found_from r
-code_found None count old new r len is some fit e = absurd (some refl)
-code_found (Some bytes) count old new r len is some fit e =
+code_found None count old new r len is some e = absurd (some refl)
+code_found (Some bytes) count old new r len is some e =
     let front : take count new ≡ take 15 bytes = ap (λ t. take count t) is ∙ take_at (take 15 bytes) _ count (sym len) in
-    ap found_from (sym (e ∙ (ap decode_of front ∙ decode_take bytes fit)))
+    ap found_from (sym (e ∙ (ap decode_of front ∙ decode_take bytes)))
 
 pub code_unread : (o : Option (List ℕ)) → found_in o ≡ NoInst → IsFound (found_in o) code.Unreadable
 code_unread o e = let P : Found → Type 0 = λ f. IsFound f code.Unreadable in subst P (sym e) tt
 
-valid_found : (o : Option (List ℕ)) (i : Inst) (n : ℕ) → IfSome o IsBytes → found_in o ≡ There i n → IsTrue (valid_of i)
-valid_found None i n fit e = absurd (cc)
-valid_found (Some bytes) i n fit e = go (decode_of bytes) refl e where
-  go : (r : Option (Inst × ℕ)) → decode_of bytes ≡ r → found_from r ≡ There i n → IsTrue (valid_of i)
-  go None q e = absurd (cc)
-  go (Some x) q e = let same : x.0 ≡ i = cc in let P : Inst → Type 0 = λ i. IsTrue (valid_of i) in subst P same (decode_valid bytes x fit q)
-
-pub code_inst : (o : Option (List ℕ)) (i : Inst) (n : ℕ) → IfSome o IsBytes → found_in o ≡ There i n → IsFound (found_in o) (code.Inst i n)
-code_inst o i n fit e =
+pub code_inst : (o : Option (List ℕ)) (i : Inst) (n : ℕ) → IsTrue (valid_of i) → found_in o ≡ There i n → IsFound (found_in o) (code.Inst i n)
+code_inst o i n valid e =
     let P : Found → Type 0 = λ f. IsFound f (code.Inst i n) in
-    subst P (sym e) (refl, refl, valid_found o i n fit e)
+    subst P (sym e) (refl, refl, valid)
+
+-- bytes that are read are bytes, so what they spell is valid
+pub valid_read : (bytes : List ℕ) (r : Option (Inst × ℕ)) → IsBytes bytes → r ≡ decode_of bytes → IfSome r (λ i. IsTrue (valid_of i.0))
+valid_read bytes None fit e = tt
+valid_read bytes (Some x) fit e = decode_valid bytes x fit (sym e)

@@ -8,3 +8,4 @@ pub mod Shown
 pub mod Composed
 pub mod Whole
 pub mod Texts
+pub mod Openings

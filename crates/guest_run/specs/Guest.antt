@@ -18,6 +18,8 @@ use Rattle.guest_run.specs.declared.stop.Stop as answer
 use Rattle.guest_run.specs.declared.stop.Stop.TheVariants as answers
 use Rattle.guest_run.specs.Edges.{Edge, edge_of}
 use Rattle.guest_run.specs.Run.{run}
+use Rattle.guest_run.specs.Opening.{arguments, opening}
+use Rattle.elf_read.specs.declared.exe.Exe.{Exe}
 
 pub record GuestView : Type 0 where
   -- the state without its streams
@@ -45,6 +47,16 @@ view_of u m stop steps edge live = record {
   undefined = u.undefined;
   edge = edge;
   live = live;
+}
+
+-- the guest of an executable that is given these words, before its first step
+abbrev pub beginning : Exe → List (List ℕ) → GuestView
+beginning exe words = record {
+  state = opening exe (arguments words) [];
+  steps = 0;
+  undefined = 0;
+  edge = None;
+  live = true;
 }
 
 abbrev pub first_edge : List Edge → Option Edge

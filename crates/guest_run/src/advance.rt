@@ -1,5 +1,6 @@
 //! One step of a guest that runs, on its processor and its memory.
-ghost use Rattle.std.specs.Prelude.{◌≡◌, ◌<◌, ◌-◌, ◌^◌, IsTrue, Some, None};
+ghost use Rattle.std.specs.Prelude.{◌≡◌, ◌<◌, ◌-◌, ◌^◌, IsTrue, IfSome, Some, None};
+ghost use Rattle.ia_inst.specs.Instructions.{decode_of};
 ghost use Rattle.ia_inst.specs.Canonical.{valid_of};
 ghost use Rattle.ia_inst.specs.Step.{There, found};
 ghost use Rattle.guest_sys.specs.Machine.{machine};
@@ -33,6 +34,14 @@ pub struct Advanced {
     pub edge: Option<(u32, u32)>,
 }
 
+/// The instruction with which bytes begin, and its length.
+fn instruction(bytes: &[u8]) -> Option<(Inst, u8)>
+    ensures listed { result ≡ decode_of bytes.now }
+    ensures valid { IfSome result (λ i. IsTrue (valid_of i.0)) }
+{
+    decode(bytes)
+}
+
 /// What stands at an address.
 fn code_at(memory: &Memory, at: u32) -> Code
     ensures { IsFound (found at memory.now.regions) result }
@@ -42,7 +51,7 @@ fn code_at(memory: &Memory, at: u32) -> Code
     if count == 0 {
         return Code::Missing;
     }
-    match decode(&bytes[..count as usize]) {
+    match instruction(&bytes[..count as usize]) {
         None => Code::Unreadable,
         Some((inst, len)) => Code::Inst(inst, len),
     }

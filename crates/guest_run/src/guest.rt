@@ -1,15 +1,21 @@
 //! A guest and its steps.
-ghost use Rattle.std.specs.Prelude.{◌≡◌, ◌+◌, ◌<◌, ◌≤◌, ◌^◌, true, IsTrue, ◌↔◌};
+ghost use Rattle.std.specs.Prelude.{◌≡◌, ◌+◌, ◌<◌, ◌≤◌, ◌^◌, true, IsTrue, ◌↔◌, map, string_bytes, IfOk};
+ghost use Rattle.elf_read.specs.Elf.{IsGuest};
+ghost use Rattle.br_word.specs.State.{all_flags};
 ghost use Rattle.guest_sys.specs.Streams.{Streams};
-ghost use Rattle.guest_run.specs.Guest.{Steps, Runs, streams};
+ghost use Rattle.guest_run.specs.Opening.{FitArguments};
+ghost use Rattle.guest_run.specs.Guest.{Steps, Runs, beginning, streams};
 
 use crate::advance::advance;
+use crate::opening::{stack_pointer, stack_top};
 use crate::stop::Stop;
 use br_outside::{Sink, Source};
+use br_word::Flags;
+use elf_read::Exe;
 use guest_mem::Memory;
 use guest_sys::SysError;
 use ia_meaning::Cpu;
-use std::alloc::Global;
+use std::alloc::{AllocError, Global};
 use std::marker::Model;
 
 /// A guest: its processor, its memory, and how far it has come.
@@ -46,7 +52,49 @@ fn is_running(stop: Stop) -> bool
     }
 }
 
+/// All flags, as they are before the first step.
+fn flags(value: bool) -> Flags
+    ensures { result ≡ all_flags value }
+{
+    Flags {
+        cf: value,
+        pf: value,
+        zf: value,
+        sf: value,
+        of: value,
+    }
+}
+
 impl Guest {
+    /// The guest of an executable that is given these words: it stands at the entry, and its stack has
+    /// the argument `guest` and the words (System V ABI, i386 supplement, process initialization). The
+    /// only error is for want of memory.
+    #[tactic(auto, using(crate::proofs::Openings::room))]
+    pub fn of(alloc: Global, exe: &Exe, args: &[String]) -> Result<Guest, AllocError>
+        requires exe { IsGuest exe.now }
+        requires args { FitArguments (map string_bytes args.now) }
+        ensures { IfOk result (λ g. g ≡ beginning exe.now (map string_bytes args.now)) }
+    {
+        let top = stack_top(alloc, args)?;
+        let memory = Memory::of(alloc, exe, top.as_slice())?;
+        Ok(Guest {
+            alloc,
+            cpu: Cpu {
+                regs: [0, 0, 0, 0, stack_pointer(args), 0, 0, 0],
+                eip: exe.entry,
+                flags: flags(false),
+                df: false,
+                known: flags(true),
+                undefined: 0,
+            },
+            memory,
+            stop: Stop::Budget,
+            steps: 0,
+            edge: None,
+            live: true,
+        })
+    }
+
     /// Whether the guest may take steps: no step has failed.
     pub fn live(&self) -> bool
         ensures { result ≡ self.now.live }
@@ -156,3 +204,6 @@ impl Guest {
         Ok(self.stop)
     }
 }
+
+#[cfg(test)]
+mod tests;

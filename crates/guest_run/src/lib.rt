@@ -4,6 +4,7 @@
 mod advance;
 mod arguments;
 mod guest;
+mod opening;
 mod stop;
 
 pub use advance::{Advanced, Code};

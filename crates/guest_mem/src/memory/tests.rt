@@ -19,7 +19,7 @@ fn guest(alloc: Global) -> Result<Exe, AllocError>
             write: false,
             exec: true,
         },
-        bytes: Bytes::from_slice(alloc, &[0x90, 0xC3])?,
+        bytes: Bytes::of(Vec::from_slice(alloc, &[0x90, 0xC3])?),
     })?;
     segments.push(Segment {
         start: 0x0804_9000,
@@ -29,7 +29,7 @@ fn guest(alloc: Global) -> Result<Exe, AllocError>
             write: true,
             exec: false,
         },
-        bytes: Bytes::from_slice(alloc, &[1, 2, 3, 4, 5])?,
+        bytes: Bytes::of(Vec::from_slice(alloc, &[1, 2, 3, 4, 5])?),
     })?;
     Ok(Exe {
         entry: 0x0804_8000,

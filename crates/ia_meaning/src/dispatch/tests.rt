@@ -10,13 +10,25 @@ use ia_inst::{Addr, Count, Rm, valid};
 use std::alloc::{AllocError, Global};
 use std::test::Fail;
 
+const CODE: u32 = 0x0804_8000;
+
 const DATA: u32 = 0x0804_9000;
 
-// A guest with 12 bytes that can be written.
+// A guest with 12 bytes that can be written, behind one of code.
 fn guest(alloc: Global) -> Result<Exe, AllocError>
     ensures { IfOk result IsGuest }
 {
     let mut segments = Vec::new(alloc);
+    segments.push(Segment {
+        start: CODE,
+        size: 1,
+        perms: Perms {
+            read: true,
+            write: false,
+            exec: true,
+        },
+        bytes: Bytes::of(Vec::new(alloc)),
+    })?;
     segments.push(Segment {
         start: DATA,
         size: 12,
@@ -25,10 +37,10 @@ fn guest(alloc: Global) -> Result<Exe, AllocError>
             write: true,
             exec: false,
         },
-        bytes: Bytes::of(vec![in alloc; 1, 2, 3, 4]?),
+        bytes: Bytes::of(Vec::new(alloc)),
     })?;
     Ok(Exe {
-        entry: DATA,
+        entry: CODE,
         segments: Segments::of(segments),
         brk_start: 0x0804_A000,
     })
@@ -213,6 +225,8 @@ fn memory_and_faults(rt: HostRuntime) -> Result<(), Fail> {
         index: None,
         disp: 0,
     });
+
+    assert!(rt; memory.store(DATA, Width::B32, 0x0403_0201));
 
     // the destination takes the stack pointer as it is afterwards
     let mut cpu = processor([0, 0, 0, 0, DATA, 0, 0, 0], 0);
