@@ -9,7 +9,7 @@ use Rattle.elf_read.specs.declared.exe.Exe.{Exe}
 use Rattle.elf_read.specs.declared.exe.Reach.TheVariants.{Guest}
 use Rattle.guest_run.specs.Opening.{opening, arguments}
 use Rattle.guest_run.specs.Run.{run}
-use Rattle.guest_run.specs.Guest.{opened, ahead, while_running, steps_taken, undefined_taken}
+use Rattle.guest_run.specs.Guest.{beginning, ahead, while_running, steps_taken, undefined_taken}
 use Rattle.word_reader.specs.Words.{Asked, Runs}
 use Rattle.binrec.specs.Words.{asked_by, word_of_guest}
 use Rattle.binrec.specs.Plans.World.{World}
@@ -29,7 +29,7 @@ use Rattle.binrec.specs.declared.acts.stop.Limit.TheVariants as limits
 use Rattle.binrec.proofs.Plans.Steps.{nothing}
 use Rattle.binrec.proofs.Ending.{EndsAs, IsBare, ends_as}
 
--- the work ended before the guest was opened
+-- the work ended before the guest was beginning
 only_says : (stop : Why) (files : Files) (left : List ℕ) (s : World) (result : ℕ) (t : World) → s.shelf.files ≡ Some files → s.input.bytes ≡ Some left
     → IsWhole files left (ends_with (Err stop) files left) s result t → OnlySays (stop_status stop) (stop_text stop) s result t
 only_says stop files left s result t told has w = record {
@@ -47,7 +47,7 @@ while_le (Faulted f) k = omega arith
 
 -- the guest ran
 has_run : (n : ℕ) (exe : Exe) (args : List (List ℕ)) (files : Files) (left : List ℕ) (e : Ending) (s : World) (result : ℕ) (t : World) → s.shelf.files ≡ Some files → s.input.bytes ≡ Some left
-    → EndsAs n (opened exe args) (opening exe (arguments args) left) files e → IsWhole files left e s result t → HasRun n (opening exe (arguments args) left) s result t
+    → EndsAs n (beginning exe args) (opening exe (arguments args) left) files e → IsWhole files left e s result t → HasRun n (opening exe (arguments args) left) s result t
 has_run n exe args files left e s result t told has h w =
     let start = opening exe (arguments args) left in
     let u = run n start [] in
@@ -64,13 +64,13 @@ has_run n exe args files left e s result t told has h w =
     }
 
 read : (n : ℕ) (args : List (List ℕ)) (word : ℕ) (files : Files) (left : List ℕ) (s : World) (result : ℕ) (t : World) → s.shelf.files ≡ Some files → s.input.bytes ≡ Some left
-    → (r : Result Exe Refused) → IsWhole files left (expected (checked (of_word word r) (λ exe. guest_plan n (opened exe args))) files left) s result t → RunsRead n args word left r s result t
+    → (r : Result Exe Refused) → IsWhole files left (expected (checked (of_word word r) (λ exe. guest_plan n (beginning exe args))) files left) s result t → RunsRead n args word left r s result t
 unfolding expected
-read n args word files left s result t told has (Ok exe) w = has_run n exe args files left _ s result t told has (ends_as n (opened exe args) files left (record { out = refl; err = refl })) w
+read n args word files left s result t told has (Ok exe) w = has_run n exe args files left _ s result t told has (ends_as n (beginning exe args) files left (record { out = refl; err = refl })) w
 read n args word files left s result t told has (Err refused) w = only_says (Because (RefusedWord word refused.number refused.place)) files left s result t told has w
 
 fetched : (n : ℕ) (args : List (List ℕ)) (word : ℕ) (files : Files) (left : List ℕ) (s : World) (result : ℕ) (t : World) → s.shelf.files ≡ Some files → s.input.bytes ≡ Some left
-    → (c : Option (List ℕ)) → IsWhole files left (after_fetch 268435456 (λ bytes. expected (checked (of_word word (elf Guest bytes)) (λ exe. guest_plan n (opened exe args))) files left) files left c) s result t
+    → (c : Option (List ℕ)) → IsWhole files left (after_fetch 268435456 (λ bytes. expected (checked (of_word word (elf Guest bytes)) (λ exe. guest_plan n (beginning exe args))) files left) files left c) s result t
     → RunsContent n args word left c s result t
 fetched n args word files left s result t told has None w = only_says (Outside objects.Shelf) files left s result t told has w
 fetched n args word files left s result t told has (Some content) w =

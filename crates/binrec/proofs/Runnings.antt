@@ -6,7 +6,7 @@ use Rattle.br_outside.specs.declared.errors.SinkError.TheVariants as sink_errors
 use Rattle.elf_read.specs.Elf.{elf, Refused}
 use Rattle.elf_read.specs.declared.exe.Exe.{Exe}
 use Rattle.elf_read.specs.declared.exe.Reach.TheVariants.{Guest}
-use Rattle.guest_run.specs.Guest.{GuestView, opened, while_running}
+use Rattle.guest_run.specs.Guest.{GuestView, beginning, while_running}
 use Rattle.binrec.specs.Plans.World.{World, on_shelf}
 use Rattle.binrec.specs.Plans.Texts.{Finished, End, end_status, finish_status}
 use Rattle.binrec.specs.Plans.Plan.{Plan, Ends, Turns, Went, GoesOn, FailsInput, FailsOutput, FailsReport, WantsMemory}
@@ -54,9 +54,9 @@ unfolding guest_plan
 guest_end zero g = stands_end g
 guest_end (suc n) g = while_end g.state.stop (Turns (next_turn g) (λ left. guest_plan n (next_guest g left))) (stands g) (turns_end n g (λ h. guest_end n h)) (stands_end g)
 
-read_end : (steps : ℕ) (args : List (List ℕ)) (word : ℕ) (r : Result Exe Refused) → EndsSo (checked (of_word word r) (λ exe. guest_plan steps (opened exe args)))
+read_end : (steps : ℕ) (args : List (List ℕ)) (word : ℕ) (r : Result Exe Refused) → EndsSo (checked (of_word word r) (λ exe. guest_plan steps (beginning exe args)))
 unfolding Went
-read_end steps args word (Ok exe) s o t went = guest_end steps (opened exe args) s o t went
+read_end steps args word (Ok exe) s o t went = guest_end steps (beginning exe args) s o t went
 read_end steps args word (Err refused) s o t (inl out) = ends_so o _ out.0 (λ h. omega (arith, h))
 read_end steps args word (Err refused) s o t (inr is) = ends_so o _ is.0 (λ h. omega (arith, h))
 

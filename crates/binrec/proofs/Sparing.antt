@@ -7,7 +7,7 @@ use Rattle.elf_read.specs.declared.exe.Exe.{Exe}
 use Rattle.elf_read.specs.declared.exe.Reach.TheVariants.{Original, Guest}
 use Rattle.guest_sys.specs.Machine.{fed}
 use Rattle.guest_sys.specs.Calls.{spare}
-use Rattle.guest_run.specs.Guest.{GuestView, opened, while_running, asks_next}
+use Rattle.guest_run.specs.Guest.{GuestView, beginning, while_running, asks_next}
 use Rattle.word_reader.specs.Words.{Asked, Builds, Traces, Runs, Merges, Shows, Sessions, Demos}
 use Rattle.binrec.specs.Words.{asked_by, word_of_guest}
 use Rattle.binrec.specs.Plans.Texts.{Finished}
@@ -36,9 +36,9 @@ guest_sparing zero g = tt
 guest_sparing (suc n) g = sparing_turns g.state.stop (Turns (next_turn g) (λ left. guest_plan n (next_guest g left))) (stands g)
     (λ left. (guest_sparing n (next_guest g left), spares n (asks_next (step (fed left g.state) 0)) (next_guest g left) (step (fed left g.state) 0).stop refl)) tt
 
-run_sparing : (steps : ℕ) (args : List (List ℕ)) (word : ℕ) (r : Result Exe Refused) → IsSparing (checked (of_word word r) (λ exe. guest_plan steps (opened exe args)))
+run_sparing : (steps : ℕ) (args : List (List ℕ)) (word : ℕ) (r : Result Exe Refused) → IsSparing (checked (of_word word r) (λ exe. guest_plan steps (beginning exe args)))
 unfolding IsSparing
-run_sparing steps args word (Ok exe) = guest_sparing steps (opened exe args)
+run_sparing steps args word (Ok exe) = guest_sparing steps (beginning exe args)
 run_sparing steps args word (Err refused) = tt
 
 build_sparing : (name : List ℕ) (r : Result Exe Refused) → IsSparing (checked (of_word 2 r) (image_part name))

@@ -9,7 +9,7 @@ use Rattle.binrec.specs.Plans.Plan.{Plan, Ends, Fetches, Stores}
 use Rattle.binrec.specs.Plans.Parts.{checked}
 use Rattle.binrec.specs.Plans.Texts.{Finished, End}
 use Rattle.word_reader.specs.Words.{Asked, Builds, Runs}
-use Rattle.guest_run.specs.Guest.{opened}
+use Rattle.guest_run.specs.Guest.{beginning}
 use Rattle.binrec.specs.Words.{asked_by, word_of_guest}
 use Rattle.binrec.specs.Guests.{guest_plan}
 use Rattle.binrec.specs.declared.acts.stop.Outcome.{Outcome}
@@ -44,7 +44,7 @@ abbrev pub guest_part : List ℕ → ℕ → (Exe → Plan) → Plan
 guest_part name word next = Fetches name 268435456 (λ bytes. checked (of_word word (elf Guest bytes)) next)
 
 abbrev pub run_plan : ℕ → List ℕ → List (List ℕ) → ℕ → Plan
-run_plan steps name args word = guest_part name word (λ exe. guest_plan steps (opened exe args))
+run_plan steps name args word = guest_part name word (λ exe. guest_plan steps (beginning exe args))
 
 -- by the command, and where the word of a guest stands
 abbrev pub asked_plan : Asked → ℕ → Plan

@@ -3,7 +3,7 @@ ghost use Rattle.std.specs.Prelude.{◌≡◌, ◌≤◌, ◌+◌, ◌^◌, Ok, 
 ghost use Rattle.elf_read.specs.Elf.{elf, IsGuest};
 ghost use Rattle.elf_read.specs.declared.exe.Reach.TheVariants as reaches;
 ghost use Rattle.br_outside.specs.Outside.{ShelfView};
-ghost use Rattle.guest_run.specs.Guest.{opened, stop_of};
+ghost use Rattle.guest_run.specs.Guest.{beginning, stop_of};
 ghost use Rattle.br_word.specs.State.{Faulted};
 ghost use Rattle.guest_run.specs.Opening.{FitArguments};
 ghost use Rattle.binrec.specs.Plans.World.{World, on_shelf, world};
@@ -58,7 +58,7 @@ fn fetch_guest<F: Shelf>(
 fn open_guest(alloc: Global, exe: &Exe, args: &[String]) -> Result<Guest, Stop>
     requires fit { FitArguments (map string_bytes args.now) }
     requires guest { IsGuest exe.now }
-    ensures { Checks (λ g. g) result (Ok (opened exe.now (map string_bytes args.now))) }
+    ensures { Checks (λ g. g) result (Ok (beginning exe.now (map string_bytes args.now))) }
 {
     match Guest::of(alloc, exe, args) {
         Ok(guest) => Ok(guest),
@@ -203,7 +203,7 @@ fn run_guest<I: Source, O: Sink, R: Sink>(
     requires fit { FitArguments (map string_bytes args.now) }
     requires guest { IsGuest exe.now }
     requires few { steps ≤ 10 ^ 18 }
-    ensures { (v : ShelfView) → Went (guest_plan steps (opened exe.now (map string_bytes args.now))) (world v (I.seen input.old) (O.seen out.old) (R.seen report.old)) (end_of result) (world v (I.seen input.new) (O.seen out.new) (R.seen report.new)) }
+    ensures { (v : ShelfView) → Went (guest_plan steps (beginning exe.now (map string_bytes args.now))) (world v (I.seen input.old) (O.seen out.old) (R.seen report.old)) (end_of result) (world v (I.seen input.new) (O.seen out.new) (R.seen report.new)) }
 {
     let mut guest = open_guest(alloc, exe, args)?;
     take_turns(&mut guest, steps, input, out, report)?;
