@@ -265,7 +265,7 @@ fn with_code(rt: &HostRuntime, code: &[u8]) -> Result<Vec<u8>, Fail> {
     Ok(file)
 }
 
-/// Runs code as a guest, and compares the status, what it printed, and the report.
+/// Whether code that is run as a guest comes to this status, output and report, and stores nothing.
 fn runs_as(
     rt: &HostRuntime,
     words: &[&str],
@@ -273,14 +273,13 @@ fn runs_as(
     status: u8,
     printed: &[u8],
     line: &str,
-) -> Result<(), Fail> {
+) -> Result<bool, Fail> {
     let file = with_code(rt, code)?;
     let left = left_by(rt, words, &file, &[], &[])?;
-    assert_eq!(rt; left.report.as_str(), line);
-    assert_eq!(rt; left.status, status);
-    assert_eq!(rt; left.printed.as_slice(), printed);
-    assert!(rt; left.stored.is_none());
-    Ok(())
+    Ok(left.status == status
+        && left.report.as_str() == line
+        && left.printed.as_slice() == printed
+        && left.stored.is_none())
 }
 
 /// Writes 3 bytes from an address, to a descriptor.
@@ -291,20 +290,19 @@ const WRITE: [u8; 22] = [
 #[test]
 fn runs_a_guest(rt: HostRuntime) -> Result<(), Fail> {
     let words = ["run", "E"];
-    runs_as(&rt, &words, &HELLO[84..], 0, b"hi\n", "exit 0 steps 8 undefined 0\n")?;
-    runs_as(
-        &rt,
-        &["run", "--steps", "7", "E"],
-        &HELLO[84..],
-        6,
-        b"hi\n",
-        "budget steps 7 undefined 0\n",
-    )?;
+    let line = "exit 0 steps 8 undefined 0\n";
+    assert!(rt; runs_as(&rt, &words, &HELLO[84..], 0, b"hi\n", line)?);
+    let line = "budget steps 7 undefined 0\n";
+    let few = ["run", "--steps", "7", "E"];
+    assert!(rt; runs_as(&rt, &few, &HELLO[84..], 6, b"hi\n", line)?);
     let cleared = [0x30, 0xc0, 0xb8, 1, 0, 0, 0, 0xcd, 0x80];
-    runs_as(&rt, &words, &cleared, 0, b"", "exit 0 steps 3 undefined 0\n")?;
+    let line = "exit 0 steps 3 undefined 0\n";
+    assert!(rt; runs_as(&rt, &words, &cleared, 0, b"", line)?);
     // mul leaves ZF undefined, and jz reads it
-    let multiplied = [0xf6, 0xe0, 0x74, 0, 0xb8, 1, 0, 0, 0, 0xcd, 0x80];
-    runs_as(&rt, &words, &multiplied, 0, b"", "exit 0 steps 4 undefined 1\n")
+    let multiplied = [0xf7, 0xe0, 0x74, 0, 0xb8, 1, 0, 0, 0, 0xcd, 0x80];
+    let line = "exit 0 steps 4 undefined 1\n";
+    assert!(rt; runs_as(&rt, &words, &multiplied, 0, b"", line)?);
+    Ok(())
 }
 
 #[test]
@@ -314,7 +312,8 @@ fn stops_at_the_budget(rt: HostRuntime) -> Result<(), Fail> {
         ("10", "budget steps 10 undefined 0\n"),
         ("0", "budget steps 0 undefined 0\n"),
     ] {
-        runs_as(&rt, &["run", "--steps", steps, "E"], &jump, 6, b"", line)?;
+        let words = ["run", "--steps", steps, "E"];
+        assert!(rt; runs_as(&rt, &words, &jump, 6, b"", line)?, "{}", line);
     }
     Ok(())
 }
@@ -325,21 +324,18 @@ fn tells_a_fault(rt: HostRuntime) -> Result<(), Fail> {
     // eax 1, edx 0, ecx 0, div ecx, and the text
     code.extend_from_slice(&[0xb8, 1, 0, 0, 0, 0xba, 0, 0, 0, 0, 0xb9, 0, 0, 0, 0, 0xf7, 0xf1])?;
     code.extend_from_slice(b"hi\n")?;
-    runs_as(
-        &rt,
-        &["run", "E"],
-        &code,
-        5,
-        b"hi\n",
-        "fault divide 08048079 steps 9 undefined 0\n",
-    )
+    let line = "fault divide 08048079 steps 9 undefined 0\n";
+    assert!(rt; runs_as(&rt, &["run", "E"], &code, 5, b"hi\n", line)?);
+    Ok(())
 }
 
 #[test]
 fn reports_what_a_guest_writes_to_2(rt: HostRuntime) -> Result<(), Fail> {
     let mut code = HELLO[84..].to_vec(rt.alloc())?;
     code[6] = 2;
-    runs_as(&rt, &["run", "E"], &code, 0, b"", "hi\nexit 0 steps 8 undefined 0\n")
+    let line = "hi\nexit 0 steps 8 undefined 0\n";
+    assert!(rt; runs_as(&rt, &["run", "E"], &code, 0, b"", line)?);
+    Ok(())
 }
 
 #[test]
