@@ -1,4 +1,11 @@
 pub mod Plans
+pub mod Addresses
+pub mod Fitting
+pub mod Turning
+pub mod Sparing
+pub mod Ending
+pub mod RunMeant
+pub mod Runnings
 pub mod Ends
 pub mod Courses
 pub mod Meanings

@@ -1,5 +1,5 @@
 -- What the answers of the commands mean, by the courses that their work can take.
-use Rattle.std.proofs.Common.{◌≡◌, ◌⊎◌, ◌<◌, ◌≤◌, ℕ, List, ◌++◌, length, Option, Some, None, IfSome, Result, Ok, Err, nat_le, Bool, true, false, IsTrue, refl, sym, ◌∙◌, ap, subst, inl, inr, arith}
+use Rattle.std.proofs.Common.{◌≡◌, ◌⊎◌, ◌<◌, ◌≤◌, ℕ, List, [], ◌∷◌, ◌++◌, length, Option, Some, None, IfSome, Result, Ok, Err, nat_le, Bool, true, false, IsTrue, refl, sym, ◌∙◌, ap, subst, inl, inr, arith}
 use Rattle.std.specs.Option.{option_map}
 use Rattle.std.proofs.lemmas.Bool.{le-leb, lt-leb, cond-true, cond-false}
 use Rattle.br_outside.specs.Files.{Files, put}
@@ -16,7 +16,8 @@ use Rattle.binrec.specs.Plans.Texts.{End, end_text, end_status, cause_text, obje
 use Rattle.binrec.specs.Plans.Plan.{Plan, Ends, Went}
 use Rattle.binrec.specs.Plans.Told.{HasFailed}
 use Rattle.binrec.specs.Plans.Happened.{Tells, Reported, Happened}
-use Rattle.binrec.specs.Words.{Asked, Builds, command}
+use Rattle.word_reader.specs.Words.{Asked, Builds, Traces, Runs, Merges, Shows, Sessions, Demos, command}
+use Rattle.binrec.specs.Words.{built_command, asked_by, word_of_guest}
 use Rattle.binrec.specs.Commands.{build_plan, built_line, done_with, of_command, plan}
 use Rattle.binrec.specs.Meaning.{Says, Unstored, OnlyUnder, IsStored, Stores, build_status, read_status, MeansBuild, MeansUsage}
 use Rattle.binrec.specs.declared.acts.stop.Stop.TheVariants.{Because, Outside, Memory}
@@ -24,6 +25,7 @@ use Rattle.binrec.specs.declared.acts.stop.Cause.TheVariants.{Usage, RefusedWord
 use Rattle.binrec.specs.declared.acts.stop.Object.TheVariants as objects
 use Rattle.binrec.specs.declared.acts.stop.Limit.TheVariants as limits
 use Rattle.binrec.proofs.Plans.Told.{told_to}
+use Rattle.binrec.proofs.Runnings.{run_end, not_1}
 use Rattle.binrec.proofs.Courses.{Course, Wants, Misses, Passes, Refuses, Breaks, Keeps, Taken, Holds, course}
 
 -- the report line of an end
@@ -229,9 +231,9 @@ taken name original o s m result t law (v, same, c) reported =
     let P : World → Type 0 = λ m. Reported o m result t in after_report name original o s v result t law c (subst P same reported)
 
 -- What `build N E` answers means what it is to mean.
-pub means_build : (words : List (List ℕ)) (name original : List ℕ) (s : World) (result : ℕ) (t : World) → Law → Happened (plan words) s result t → command words ≡ Ok (Builds name original) → MeansBuild name original s result t
+pub means_build : (words : List (List ℕ)) (name original : List ℕ) (s : World) (result : ℕ) (t : World) → Law → Happened (plan words) s result t → asked_by words ≡ Ok (Builds name original []) → MeansBuild name original s result t
 means_build words name original s result t law (o, m, went, reported) asked =
-    let P : Result Asked ℕ → Type 0 = λ r. Went (of_command r) s o m in
+    let P : Result Asked ℕ → Type 0 = λ r. Went (of_command r (word_of_guest words)) s o m in
     taken name original o s m result t law (course name original s o m (subst P asked went)) reported
 
 -- ---- words that are no command
@@ -260,20 +262,57 @@ usage_reported at s o result t is (inl (four, same)) =
     subst P (sym same) (record { status = inr (inl four); line = λ one. absurd (let z : 4 ≡ 1 = sym four ∙ one in omega arith); alone = (refl, refl, refl) })
 usage_reported at s o result t is (inr (r, told, same)) = let P : World → Type 0 = λ t. IsUsage at s result t in subst P (sym same) (usage_told at s o result r is told)
 
-is_usage : (words : List (List ℕ)) (at : ℕ) (s : World) (result : ℕ) (t : World) → Happened (plan words) s result t → command words ≡ Err at → IsUsage at s result t
+is_usage : (words : List (List ℕ)) (at : ℕ) (s : World) (result : ℕ) (t : World) → Happened (plan words) s result t → asked_by words ≡ Err at → IsUsage at s result t
 is_usage words at s result t (o, m, went, reported) asked =
-    let P : Result Asked ℕ → Type 0 = λ r. Went (of_command r) s o m in
+    let P : Result Asked ℕ → Type 0 = λ r. Went (of_command r (word_of_guest words)) s o m in
     let ends : (m ≡ s) × ((o ≡ Err Memory) ⊎ (o ≡ Err (Because (Usage at)))) = usage_end at s o m (subst P asked went) in
     let Q : World → Type 0 = λ m. Reported o m result t in
     usage_reported at s o result t ends.1 (subst Q ends.0 reported)
 
-only_usage : (words : List (List ℕ)) (s : World) (result : ℕ) (t : World) → Law → Happened (plan words) s result t → result ≡ 1 → (read : Result Asked ℕ) → command words ≡ read → (at : ℕ) × (command words ≡ Err at) × Says (cause_text (Usage at)) s t
-only_usage words s result t law h is (Ok (Builds name original)) asked = absurd ((means_build words name original s result t law h asked).usage is)
+-- the commands that there are
+abbrev There : Asked → Type 0
+There (Builds n e []) = Unit {0}
+There (Runs steps e args) = Unit {0}
+There _ = ⊥
+
+abbrev AllThere : Result Asked ℕ → Type 0
+AllThere (Ok asked) = There asked
+AllThere (Err at) = Unit {0}
+
+all_there : (r : Result Asked ℕ) (words : List (List ℕ)) → AllThere (built_command r words)
+all_there (Ok (Builds n e [])) words = tt
+all_there (Ok (Builds n e (t ∷ ts))) words = tt
+all_there (Ok (Traces k t e ts)) words = tt
+all_there (Ok (Runs k e ts)) words = tt
+all_there (Ok (Merges t e ts)) words = tt
+all_there (Ok (Shows e ts)) words = tt
+all_there (Ok (Sessions e)) words = tt
+all_there (Ok (Demos n)) words = tt
+all_there (Err at) words = tt
+
+not_built : (r : Result Asked ℕ) (words : List (List ℕ)) (asked : Asked) → built_command r words ≡ Ok asked → There asked
+not_built r words asked is = subst AllThere is (all_there r words)
+
+-- an end of `run` is no usage
+run_no_usage : (words : List (List ℕ)) (steps : ℕ) (e : List ℕ) (args : List (List ℕ)) (s : World) (result : ℕ) (t : World) → Happened (plan words) s result t → asked_by words ≡ Ok (Runs steps e args) → result ≡ 1 → ⊥
+run_no_usage words steps e args s result t (o, m, went, reported) asked one =
+    let P : Result Asked ℕ → Type 0 = λ r. Went (of_command r (word_of_guest words)) s o m in
+    not_1 o m result t (run_end steps e args (word_of_guest words) s o m (subst P asked went)) reported one
+
+only_usage : (words : List (List ℕ)) (s : World) (result : ℕ) (t : World) → Law → Happened (plan words) s result t → result ≡ 1 → (read : Result Asked ℕ) → asked_by words ≡ read → (at : ℕ) × (asked_by words ≡ Err at) × Says (cause_text (Usage at)) s t
+only_usage words s result t law h is (Ok (Builds name original [])) asked = absurd ((means_build words name original s result t law h asked).usage is)
+only_usage words s result t law h is (Ok (Runs steps e args)) asked = absurd (run_no_usage words steps e args s result t h asked is)
+only_usage words s result t law h is (Ok (Builds name original (word ∷ more))) asked = absurd (not_built (command words) words (Builds name original (word ∷ more)) asked)
+only_usage words s result t law h is (Ok (Traces k t' e ts)) asked = absurd (not_built (command words) words (Traces k t' e ts) asked)
+only_usage words s result t law h is (Ok (Merges t' e ts)) asked = absurd (not_built (command words) words (Merges t' e ts) asked)
+only_usage words s result t law h is (Ok (Shows e ts)) asked = absurd (not_built (command words) words (Shows e ts) asked)
+only_usage words s result t law h is (Ok (Sessions e)) asked = absurd (not_built (command words) words (Sessions e) asked)
+only_usage words s result t law h is (Ok (Demos n)) asked = absurd (not_built (command words) words (Demos n) asked)
 only_usage words s result t law h is (Err at) asked = (at, asked, (is_usage words at s result t h asked).line is)
 
 pub means_usage : (words : List (List ℕ)) (s : World) (result : ℕ) (t : World) → Law → Happened (plan words) s result t → MeansUsage words s result t
 means_usage words s result t law h = record {
-  only = λ is. only_usage words s result t law h is (command words) refl;
+  only = λ is. only_usage words s result t law h is (asked_by words) refl;
   status = λ at asked. (is_usage words at s result t h asked).status;
   alone = λ at asked. (is_usage words at s result t h asked).alone;
 }

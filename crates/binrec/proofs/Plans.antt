@@ -1,5 +1,6 @@
 pub mod Runs
 pub mod Steps
+pub mod Turns
 pub mod Told
 pub mod Causes
 pub mod Finish

@@ -1,23 +1,34 @@
 -- What the top call owes follows from what happened.
-use Rattle.std.proofs.Common.{◌≡◌, ◌⊎◌, ℕ, List, Result, Ok, Err, refl, sym, ap, subst, inl, inr}
+use Rattle.std.proofs.Common.{◌≡◌, ◌⊎◌, ℕ, List, [], Result, Ok, Err, refl, sym, ap, subst, inl, inr}
 use Rattle.br_outside.specs.Outside.{StreamView}
 use Rattle.binrec.specs.Plans.World.{World, on_report}
 use Rattle.binrec.specs.Plans.Texts.{End}
 use Rattle.binrec.specs.Plans.Plan.{Plan, Went}
 use Rattle.binrec.specs.Plans.Happened.{Tells, TellsStop, Happened}
 use Rattle.binrec.specs.Plans.Told.{IsExact, IsComplete, HasCause}
-use Rattle.binrec.specs.Words.{Asked, Builds, command}
-use Rattle.binrec.specs.Commands.{of_command, plan}
-use Rattle.binrec.specs.Meaning.{MeansBuild, MeansUsage}
+use Rattle.word_reader.specs.Words.{Asked, Builds, Runs}
+use Rattle.binrec.specs.Words.{asked_by, word_of_guest}
+use Rattle.binrec.specs.Commands.{asked_plan, of_command, plan, run_plan}
+use Rattle.binrec.specs.Meaning.{MeansBuild, MeansRun, MeansUsage}
 use Rattle.binrec.specs.declared.acts.stop.Stop.{Stop}
 use Rattle.binrec.specs.declared.acts.stop.Stop.TheVariants.{Because}
 use Rattle.binrec.specs.declared.acts.stop.Cause.TheVariants.{Usage}
 use Rattle.binrec.proofs.Plans.Runs.{ended}
 use Rattle.binrec.proofs.Plans.Finish.{exact, complete, cause}
+use Rattle.binrec.proofs.Sparing.{sparing}
+use Rattle.binrec.proofs.RunMeant.{means_run}
 use Rattle.binrec.proofs.Meanings.{Law, means_build, means_usage}
 
-pub no_command : (words : List (List ℕ)) (at : ℕ) (s : World) → command words ≡ Err at → Went (plan words) s (Err (Because (Usage at))) s
-no_command words at s is = let P : Result Asked ℕ → Type 0 = λ r. Went (of_command r) s (Err (Because (Usage at))) s in subst P (sym is) (ended (Err (Usage at)) s)
+pub no_command : (words : List (List ℕ)) (at : ℕ) (s : World) → asked_by words ≡ Err at → Went (plan words) s (Err (Because (Usage at))) s
+no_command words at s is = let P : Result Asked ℕ → Type 0 = λ r. Went (of_command r (word_of_guest words)) s (Err (Because (Usage at))) s in subst P (sym is) (ended (Err (Usage at)) s)
+
+-- the command that was asked for
+pub asked_for : (words : List (List ℕ)) (asked : Asked) (s : World) (o : End) (t : World) → asked_by words ≡ Ok asked → Went (asked_plan asked (word_of_guest words)) s o t → Went (plan words) s o t
+asked_for words asked s o t is went = let P : Result Asked ℕ → Type 0 = λ r. Went (of_command r (word_of_guest words)) s o t in subst P (sym is) went
+
+-- a run, by where its file stands in the words
+pub run_for : (words : List (List ℕ)) (steps : ℕ) (e : List ℕ) (args : List (List ℕ)) (word : ℕ) (s : World) (o : End) (t : World) → asked_by words ≡ Ok (Runs steps e args) → word ≡ word_of_guest words → Went (run_plan steps e args word) s o t → Went (plan words) s o t
+run_for words steps e args word s o t is at went = let P : ℕ → Type 0 = λ w. Went (run_plan steps e args w) s o t in asked_for words (Runs steps e args) s o t is (subst P at went)
 
 -- the line of a stop was given, or memory was wanting for it
 pub reported_stop : (p : Plan) (s m : World) (stop : Stop) (result : ℕ) (v : StreamView) → Went p s (Err stop) m → TellsStop stop m.report result v → Happened p s result (on_report m v)
@@ -31,14 +42,16 @@ pub record AllOf (words : List (List ℕ)) (s : World) (result : ℕ) (t : World
   pub complete : IsComplete (plan words) s result t
   pub cause : HasCause s result t
   pub usage : MeansUsage words s result t
-  pub build : (name original : List ℕ) → command words ≡ Ok (Builds name original) → MeansBuild name original s result t
+  pub run : (steps : ℕ) (name : List ℕ) (args : List (List ℕ)) → asked_by words ≡ Ok (Runs steps name args) → MeansRun steps name args (word_of_guest words) s result t
+  pub build : (name original : List ℕ) → asked_by words ≡ Ok (Builds name original []) → MeansBuild name original s result t
 
 pub all_of : (words : List (List ℕ)) (s : World) (result : ℕ) (t : World) → Law → Happened (plan words) s result t → AllOf words s result t
 all_of words s result t law h = record {
   happened = h;
-  exact = exact (plan words) s result t h;
-  complete = complete (plan words) s result t h;
+  exact = exact (plan words) s result t (sparing words) h;
+  complete = complete (plan words) s result t (sparing words) h;
   cause = cause (plan words) s result t h;
   usage = means_usage words s result t law h;
+  run = λ steps name args asked. means_run words steps name args s result t (exact (plan words) s result t (sparing words) h) asked;
   build = λ name original asked. means_build words name original s result t law h asked;
 }

@@ -3,12 +3,15 @@ use Rattle.std.specs.Prelude.{◌≡◌, ℕ, List, ◌++◌, length, Result, Ok
 use Rattle.std.specs.Fmt.{decimal}
 use Rattle.elf_read.specs.Elf.{elf, Refused}
 use Rattle.elf_read.specs.declared.exe.Exe.{Exe}
-use Rattle.elf_read.specs.declared.exe.Reach.TheVariants.{Original}
+use Rattle.elf_read.specs.declared.exe.Reach.TheVariants.{Original, Guest}
 use Rattle.build_core.specs.Image.{image}
 use Rattle.binrec.specs.Plans.Plan.{Plan, Ends, Fetches, Stores}
 use Rattle.binrec.specs.Plans.Parts.{checked}
 use Rattle.binrec.specs.Plans.Texts.{Finished, End}
-use Rattle.binrec.specs.Words.{Asked, Builds, command}
+use Rattle.word_reader.specs.Words.{Asked, Builds, Runs}
+use Rattle.guest_run.specs.Guest.{beginning}
+use Rattle.binrec.specs.Words.{asked_by, word_of_guest}
+use Rattle.binrec.specs.Guests.{guest_plan}
 use Rattle.binrec.specs.declared.acts.stop.Outcome.{Outcome}
 use Rattle.binrec.specs.declared.acts.stop.Finish.TheVariants.{Done}
 use Rattle.binrec.specs.declared.acts.stop.Stop.{Stop}
@@ -36,16 +39,26 @@ image_part name exe = Stores name (image exe) (Ends (Ok (done_with (built_line 0
 abbrev pub build_plan : List ℕ → List ℕ → Plan
 build_plan name original = original_part original 2 (image_part name)
 
-abbrev pub asked_plan : Asked → Plan
-asked_plan (Builds name original) = build_plan name original
+-- a guest is fetched and read
+abbrev pub guest_part : List ℕ → ℕ → (Exe → Plan) → Plan
+guest_part name word next = Fetches name 268435456 (λ bytes. checked (of_word word (elf Guest bytes)) next)
 
-abbrev pub of_command : Result Asked ℕ → Plan
-of_command (Ok asked) = asked_plan asked
-of_command (Err at) = Ends (Err (Usage at))
+abbrev pub run_plan : ℕ → List ℕ → List (List ℕ) → ℕ → Plan
+run_plan steps name args word = guest_part name word (λ exe. guest_plan steps (beginning exe args))
+
+-- by the command, and where the word of a guest stands
+abbrev pub asked_plan : Asked → ℕ → Plan
+asked_plan (Builds name original traces) word = build_plan name original
+asked_plan (Runs steps name args) word = run_plan steps name args word
+asked_plan _ word = Ends (Err (Usage 0))
+
+abbrev pub of_command : Result Asked ℕ → ℕ → Plan
+of_command (Ok asked) word = asked_plan asked word
+of_command (Err at) word = Ends (Err (Usage at))
 
 -- what the words ask for
 abbrev pub plan : List (List ℕ) → Plan
-plan words = of_command (command words)
+plan words = of_command (asked_by words) (word_of_guest words)
 
 -- how the work of a command ended
 abbrev pub end_of : Result Outcome Stop → End

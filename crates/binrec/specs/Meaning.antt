@@ -1,19 +1,25 @@
 -- What the answers of the commands mean, in a user's words.
-use Rattle.std.specs.Prelude.{◌≡◌, ◌⊎◌, ◌<◌, ◌≤◌, nat_le, ℕ, List, ◌++◌, length, Option, Some, None, IfSome, Result, Ok, Err, cond, IsTrue}
+use Rattle.std.specs.Prelude.{◌≡◌, ◌⊎◌, ◌<◌, ◌≤◌, nat_le, ℕ, List, [], ◌++◌, length, Option, Some, None, IfSome, Result, Ok, Err, cond, IsTrue}
 use Rattle.std.specs.Option.{option_map}
 use Rattle.br_outside.specs.Files.{Files, put}
 use Rattle.br_outside.specs.Outside.{SameBut}
 use Rattle.elf_read.specs.Elf.{elf, Refused}
 use Rattle.elf_read.specs.declared.exe.Exe.{Exe}
-use Rattle.elf_read.specs.declared.exe.Reach.TheVariants.{Original}
+use Rattle.elf_read.specs.declared.exe.Reach.TheVariants.{Original, Guest}
 use Rattle.build_core.specs.Image.{image}
 use Rattle.sim_laws.specs.Preserves.{Preserves}
 use Rattle.binrec.specs.Plans.World.{World}
-use Rattle.binrec.specs.Plans.Texts.{cause_text, object_text}
-use Rattle.binrec.specs.Plans.Told.{HasFailed}
-use Rattle.binrec.specs.Words.{command}
+use Rattle.br_word.specs.State.{State}
+use Rattle.guest_run.specs.Opening.{opening, arguments}
+use Rattle.guest_run.specs.Run.{run}
+use Rattle.guest_run.specs.Guest.{ahead, steps_taken, undefined_taken}
+use Rattle.binrec.specs.Guests.{finish_of, last_line}
+use Rattle.binrec.specs.Plans.Texts.{cause_text, object_text, finish_status}
+use Rattle.binrec.specs.Plans.Told.{HasFailed, LeavesBut}
+use Rattle.binrec.specs.Words.{asked_by}
 use Rattle.binrec.specs.Commands.{built_line}
 use Rattle.binrec.specs.declared.acts.stop.Cause.TheVariants.{Usage, RefusedWord, Limited}
+use Rattle.binrec.specs.declared.acts.stop.Object.{Object}
 use Rattle.binrec.specs.declared.acts.stop.Object.TheVariants as objects
 use Rattle.binrec.specs.declared.acts.stop.Limit.TheVariants as limits
 
@@ -71,6 +77,40 @@ pub record MeansBuild (name original : List ℕ) (s : World) (result : ℕ) (t :
 
 -- What is done where the words are no command: nothing but a line to the report.
 pub record MeansUsage (words : List (List ℕ)) (s : World) (result : ℕ) (t : World) : Type 0 where
-  pub only : result ≡ 1 → (at : ℕ) × (command words ≡ Err at) × Says (cause_text (Usage at)) s t
-  pub status : (at : ℕ) → command words ≡ Err at → (result ≡ 1) ⊎ ((result ≡ 4) ⊎ ((result ≡ 3) × HasFailed objects.Report s t))
-  pub alone : (at : ℕ) → command words ≡ Err at → (t.shelf ≡ s.shelf) × (t.input ≡ s.input) × (t.out ≡ s.out)
+  pub only : result ≡ 1 → (at : ℕ) × (asked_by words ≡ Err at) × Says (cause_text (Usage at)) s t
+  pub status : (at : ℕ) → asked_by words ≡ Err at → (result ≡ 1) ⊎ ((result ≡ 4) ⊎ ((result ≡ 3) × HasFailed objects.Report s t))
+  pub alone : (at : ℕ) → asked_by words ≡ Err at → (t.shelf ≡ s.shelf) × (t.input ≡ s.input) × (t.out ≡ s.out)
+
+-- ---- run
+
+-- What a run of at most n steps from an opening has done where nothing failed, by its state at the end. Of the input a read that faults may have taken more.
+pub record HasRun (n : ℕ) (start : State) (s : World) (result : ℕ) (t : World) : Type 0 where
+  pub status : result ≡ finish_status (finish_of (run n start []).stop)
+  pub out : t.out.bytes ≡ option_map (λ written. written ++ (run n start []).out) s.out.bytes
+  pub report : Says ((run n start []).err ++ last_line (run n start []).stop (steps_taken n start) (undefined_taken n start)) s t
+  pub input : LeavesBut (ahead (run n start [])) (run n start []).input t.input.bytes
+  pub shelf : Unstored s t
+
+-- nothing was done but that a line was reported
+pub record OnlySays (k : ℕ) (line : List ℕ) (s : World) (result : ℕ) (t : World) : Type 0 where
+  pub status : result ≡ k
+  pub report : Says line s t
+  pub shelf : Unstored s t
+  pub input : t.input.bytes ≡ s.input.bytes
+  pub out : t.out.bytes ≡ s.out.bytes
+
+-- by what the file is as a guest
+abbrev pub RunsRead : ℕ → List (List ℕ) → ℕ → List ℕ → Result Exe Refused → World → ℕ → World → Type 0
+RunsRead n args word left (Ok exe) s result t = HasRun n (opening exe (arguments args) left) s result t
+RunsRead n args word left (Err refused) s result t = OnlySays 2 (cause_text (RefusedWord word refused.number refused.place)) s result t
+
+-- by the content of the name
+abbrev pub RunsContent : ℕ → List (List ℕ) → ℕ → List ℕ → Option (List ℕ) → World → ℕ → World → Type 0
+RunsContent n args word left None s result t = OnlySays 3 (object_text objects.Shelf) s result t
+RunsContent n args word left (Some content) s result t = (length content ≤ 268435456 → RunsRead n args word left (elf Guest content) s result t)
+    × (268435456 < length content → OnlySays 7 (cause_text (Limited (limits.File 268435456))) s result t)
+
+-- What `run` does over a shelf and an input that tell, unless memory is wanting or an object fails: `word` is the position of the word of the file.
+abbrev pub MeansRun : ℕ → List ℕ → List (List ℕ) → ℕ → World → ℕ → World → Type 0
+MeansRun n name args word s result t = (files : Files) (left : List ℕ) → s.shelf.files ≡ Some files → s.input.bytes ≡ Some left →
+    (result ≡ 4) ⊎ (((result ≡ 3) × (x : Object) × HasFailed x s t) ⊎ RunsContent n args word left (files name) s result t)

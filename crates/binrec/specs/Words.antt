@@ -1,43 +1,40 @@
--- The words of the command line, read from left to right.
-use Rattle.std.specs.Prelude.{◌≡◌, nat_le, ◌&&◌, ℕ, List, [], ◌∷◌, length, codes, Result, Ok, Err, Bool, true, cond, String, map, string_bytes}
+-- The commands that there are so far, read from the words of the command line.
+use Rattle.std.specs.Prelude.{◌≡◌, ℕ, min, List, [], ◌∷◌, codes, Result, Ok, Err, cond}
 use Rattle.std.specs.Str.{bytes_eq}
-use Rattle.std.specs.Borrow.{Bor}
-use Rattle.binrec.specs.declared.words.Command.{Command}
-use Rattle.binrec.specs.declared.words.Command.TheVariants as commands
+use Rattle.word_reader.specs.Words.{Asked, Builds, Runs, command}
+use Rattle.word_reader.specs.Reads.{asked_of}
+use Rattle.word_reader.specs.declared.command.Command.{Command}
 
--- a command with its words
-pub data Asked : Type 0 where
-  Builds : (image original : List ℕ) → Asked
+-- `build` takes no word behind E yet, and the other commands are not there yet
+abbrev pub built : Asked → Result Asked ℕ
+built (Builds n e []) = Ok (Builds n e [])
+built (Builds n e (word ∷ words)) = Err 3
+built (Runs steps e args) = Ok (Runs steps e args)
+built _ = Err 0
 
--- a name has 1 to 4096 bytes
-abbrev pub is_name : List ℕ → Bool
-is_name word = nat_le 1 (length word) && nat_le (length word) 4096
+-- the position of the first wrong word, by the command's own word
+abbrev pub wrong_at : ℕ → List (List ℕ) → ℕ
+wrong_at at [] = 0
+wrong_at at (word ∷ words) = cond (bytes_eq word (codes "build")) (min at 3) (cond (bytes_eq word (codes "run")) at 0)
 
--- the next word is a name, or the position is wrong
-abbrev pub next_name : ℕ → List (List ℕ) → (List ℕ → List (List ℕ) → Result Asked ℕ) → Result Asked ℕ
-next_name at [] next = Err at
-next_name at (word ∷ words) next = cond (is_name word) (next word words) (Err at)
-
-abbrev pub no_more : ℕ → List (List ℕ) → Asked → Result Asked ℕ
-no_more at [] asked = Ok asked
-no_more at (word ∷ words) asked = Err at
-
-abbrev pub build_words : List (List ℕ) → Result Asked ℕ
-build_words words = next_name 1 words (λ image words. next_name 2 words (λ original words. no_more 3 words (Builds image original)))
+abbrev pub built_command : Result Asked ℕ → List (List ℕ) → Result Asked ℕ
+built_command (Ok asked) words = built asked
+built_command (Err at) words = Err (wrong_at at words)
 
 -- the command of the words, or the position of the first wrong word, or how many words there are where one is missing
-abbrev pub command : List (List ℕ) → Result Asked ℕ
-command [] = Err 0
-command (word ∷ words) = cond (bytes_eq word (codes "build")) (build_words words) (Err 0)
-
-abbrev pub asked_of : Command → Asked
-asked_of (commands.Build image original) = Builds image.now original.now
+abbrev pub asked_by : List (List ℕ) → Result Asked ℕ
+asked_by words = built_command (command words) words
 
 -- what was read is what the words ask
 abbrev pub Reads : Result Command ℕ → Result Asked ℕ → Type 0
 Reads (Ok read) asked = asked ≡ Ok (asked_of read)
 Reads (Err at) asked = asked ≡ Err at
 
-abbrev pub ReadsName : {A : Type 0} → ℕ → Result (Bor (List ℕ) × Bor (List (String A))) ℕ → List (List ℕ) → Type 0
-ReadsName at (Ok read) words = (is_name (read.0).now ≡ true) × (words ≡ (read.0).now ∷ map string_bytes (read.1).now)
-ReadsName at (Err wrong) words = (next : List ℕ → List (List ℕ) → Result Asked ℕ) → next_name at words next ≡ Err wrong
+-- where the word of the file stands that `run` is given
+abbrev pub word_behind_run : List (List ℕ) → ℕ
+word_behind_run [] = 1
+word_behind_run (word ∷ words) = cond (bytes_eq word (codes "--steps")) 3 1
+
+abbrev pub word_of_guest : List (List ℕ) → ℕ
+word_of_guest [] = 1
+word_of_guest (word ∷ words) = word_behind_run words

@@ -1,3 +1,4 @@
 //! The commands.
 
 pub mod build;
+pub mod run;

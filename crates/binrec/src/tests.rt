@@ -15,20 +15,24 @@ const HELLO: [u8; 121] = [
     0x00, 0x00, 0x00, 0x00, 0xcd, 0x80, 0x68, 0x69, 0x0a,
 ];
 
-/// What a command left: its status, its report, the file under `N`, and whether the input and the
-/// output are as they were.
+/// What a command left: its status, its report, what it printed, the file under `N`, and whether the
+/// input is as it was.
 #[derive(Drop)]
 struct Left {
     status: u8,
     report: String,
+    printed: Vec<u8>,
     stored: Option<Vec<u8>>,
-    quiet: bool,
+    untaken: bool,
 }
 
 impl Left {
     /// Whether this is the status and the report, and nothing was taken or printed.
     fn says(&self, status: u8, line: &str) -> bool {
-        self.status == status && self.report.as_str() == line && self.quiet
+        self.status == status
+            && self.report.as_str() == line
+            && self.printed.is_empty()
+            && self.untaken
     }
 
     /// The same, and nothing was stored.
@@ -46,6 +50,18 @@ fn left_by(
     failing: &[u32],
     silent: &[u32],
 ) -> Result<Left, Fail> {
+    left_with(rt, words, content, failing, &[], silent)
+}
+
+/// The same, where the listed calls of the output fail too.
+fn left_with(
+    rt: &HostRuntime,
+    words: &[&str],
+    content: &[u8],
+    failing: &[u32],
+    mute: &[u32],
+    silent: &[u32],
+) -> Result<Left, Fail> {
     let alloc = rt.alloc();
     let mut texts = Vec::new(alloc);
     for word in words {
@@ -55,7 +71,7 @@ fn left_by(
     files.push((String::from_str(alloc, "E")?, content.to_vec(alloc)?))?;
     let mut shelf = MemShelf::new(alloc, files, failing.to_vec(alloc)?);
     let mut input = MemSource::new(b"input".to_vec(alloc)?, Vec::new(alloc));
-    let mut out = MemSink::new(alloc, Vec::new(alloc));
+    let mut out = MemSink::new(alloc, mute.to_vec(alloc)?);
     let mut report = MemSink::new(alloc, silent.to_vec(alloc)?);
     let status = binrec(alloc, &texts, &mut shelf, &mut input, &mut out, &mut report);
     let stored = match shelf.get("N") {
@@ -66,7 +82,8 @@ fn left_by(
         status: status.0,
         report: String::from_utf8(report.written().to_vec(alloc)?)?,
         stored,
-        quiet: input.left() == b"input".as_slice() && out.written().is_empty(),
+        printed: out.written().to_vec(alloc)?,
+        untaken: input.left() == b"input".as_slice(),
     })
 }
 
@@ -191,7 +208,7 @@ fn limits_the_original(rt: HostRuntime) -> Result<(), Fail> {
 
 #[test]
 fn reads_the_words(rt: HostRuntime) -> Result<(), Fail> {
-    let stated: [(&[&str], &str); 8] = [
+    let stated: [(&[&str], &str); 14] = [
         (&[], "usage 0\n"),
         (&["built", "N", "E"], "usage 0\n"),
         (&["build"], "usage 1\n"),
@@ -200,6 +217,12 @@ fn reads_the_words(rt: HostRuntime) -> Result<(), Fail> {
         (&["build", "N"], "usage 2\n"),
         (&["build", "N", ""], "usage 2\n"),
         (&["build", "N", "E", "T"], "usage 3\n"),
+        (&["build", "N", "E", "T", ""], "usage 3\n"),
+        (&["show", "E"], "usage 0\n"),
+        (&["demo", "0"], "usage 0\n"),
+        (&["run"], "usage 1\n"),
+        (&["run", "--steps", "x", "E"], "usage 2\n"),
+        (&["run", "--steps", "1"], "usage 3\n"),
     ];
     for (words, line) in stated {
         assert!(rt;
@@ -228,5 +251,109 @@ fn works_over_calm_objects(rt: HostRuntime) -> Result<(), Fail> {
     assert_eq!(rt; status.0, 0);
     assert_eq!(rt; report.written(), b"built 0 5 8313\n".as_slice());
     assert_eq!(rt; shelf.get("-").map(|bytes| bytes.len()), Some(8313));
+    Ok(())
+}
+
+/// The executable with other code and data behind its headers.
+fn with_code(rt: &HostRuntime, code: &[u8]) -> Result<Vec<u8>, Fail> {
+    let mut file = HELLO[..84].to_vec(rt.alloc())?;
+    file.extend_from_slice(code)?;
+    let size = file.len() as u32;
+    for at in [68usize, 72] {
+        file[at..at + 4].copy_from_slice(&size.to_le_bytes());
+    }
+    Ok(file)
+}
+
+/// Whether code that is run as a guest comes to this status, output and report, and stores nothing.
+fn runs_as(
+    rt: &HostRuntime,
+    words: &[&str],
+    code: &[u8],
+    status: u8,
+    printed: &[u8],
+    line: &str,
+) -> Result<bool, Fail> {
+    let file = with_code(rt, code)?;
+    let left = left_by(rt, words, &file, &[], &[])?;
+    Ok(left.status == status
+        && left.report.as_str() == line
+        && left.printed.as_slice() == printed
+        && left.stored.is_none())
+}
+
+/// Writes 3 bytes from an address, to a descriptor.
+const WRITE: [u8; 22] = [
+    0xb8, 4, 0, 0, 0, 0xbb, 1, 0, 0, 0, 0xb9, 0x7b, 0x80, 0x04, 0x08, 0xba, 3, 0, 0, 0, 0xcd, 0x80,
+];
+
+#[test]
+fn runs_a_guest(rt: HostRuntime) -> Result<(), Fail> {
+    let words = ["run", "E"];
+    let line = "exit 0 steps 8 undefined 0\n";
+    assert!(rt; runs_as(&rt, &words, &HELLO[84..], 0, b"hi\n", line)?);
+    let line = "budget steps 7 undefined 0\n";
+    let few = ["run", "--steps", "7", "E"];
+    assert!(rt; runs_as(&rt, &few, &HELLO[84..], 6, b"hi\n", line)?);
+    let cleared = [0x30, 0xc0, 0xb8, 1, 0, 0, 0, 0xcd, 0x80];
+    let line = "exit 0 steps 3 undefined 0\n";
+    assert!(rt; runs_as(&rt, &words, &cleared, 0, b"", line)?);
+    // mul leaves ZF undefined, and jz reads it
+    let multiplied = [0xf7, 0xe0, 0x74, 0, 0xb8, 1, 0, 0, 0, 0xcd, 0x80];
+    let line = "exit 0 steps 4 undefined 1\n";
+    assert!(rt; runs_as(&rt, &words, &multiplied, 0, b"", line)?);
+    Ok(())
+}
+
+#[test]
+fn stops_at_the_budget(rt: HostRuntime) -> Result<(), Fail> {
+    let jump = [0xeb, 0xfe];
+    for (steps, line) in [
+        ("10", "budget steps 10 undefined 0\n"),
+        ("0", "budget steps 0 undefined 0\n"),
+    ] {
+        let words = ["run", "--steps", steps, "E"];
+        assert!(rt; runs_as(&rt, &words, &jump, 6, b"", line)?, "{}", line);
+    }
+    Ok(())
+}
+
+#[test]
+fn tells_a_fault(rt: HostRuntime) -> Result<(), Fail> {
+    let mut code = WRITE.to_vec(rt.alloc())?;
+    // eax 1, edx 0, ecx 0, div ecx, and the text
+    code.extend_from_slice(&[0xb8, 1, 0, 0, 0, 0xba, 0, 0, 0, 0, 0xb9, 0, 0, 0, 0, 0xf7, 0xf1])?;
+    code.extend_from_slice(b"hi\n")?;
+    let line = "fault divide 08048079 steps 9 undefined 0\n";
+    assert!(rt; runs_as(&rt, &["run", "E"], &code, 5, b"hi\n", line)?);
+    Ok(())
+}
+
+#[test]
+fn reports_what_a_guest_writes_to_2(rt: HostRuntime) -> Result<(), Fail> {
+    let mut code = HELLO[84..].to_vec(rt.alloc())?;
+    code[6] = 2;
+    let line = "hi\nexit 0 steps 8 undefined 0\n";
+    assert!(rt; runs_as(&rt, &["run", "E"], &code, 0, b"", line)?);
+    Ok(())
+}
+
+#[test]
+fn refuses_a_guest(rt: HostRuntime) -> Result<(), Fail> {
+    let mut file = HELLO;
+    file[16] = 3;
+    let left = left_by(&rt, &["run", "E"], &file, &[], &[])?;
+    assert!(rt; left.gives_up(2, "refused word 1 4 16\n"));
+    let left = left_by(&rt, &["run", "--steps", "9", "E"], &file, &[], &[])?;
+    assert!(rt; left.gives_up(2, "refused word 3 4 16\n"));
+    let left = left_by(&rt, &["run", "absent"], &file, &[], &[])?;
+    assert!(rt; left.gives_up(3, "outside shelf\n"));
+    Ok(())
+}
+
+#[test]
+fn names_the_output_of_a_guest(rt: HostRuntime) -> Result<(), Fail> {
+    let left = left_with(&rt, &["run", "E"], &HELLO, &[], &[1], &[])?;
+    assert!(rt; left.says(3, "outside output\n"));
     Ok(())
 }

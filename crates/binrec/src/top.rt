@@ -1,19 +1,22 @@
 //! The top call.
-ghost use Rattle.std.specs.Prelude.{◌≡◌, ℕ, List, Ok, map, string_bytes};
-ghost use Rattle.binrec.specs.Plans.World.{World, on_shelf, world};
+ghost use Rattle.std.specs.Prelude.{◌≡◌, ℕ, List, [], Ok, map, string_bytes};
+ghost use Rattle.binrec.specs.Plans.World.{world};
 ghost use Rattle.binrec.specs.Plans.Plan.{Went};
 ghost use Rattle.binrec.specs.Plans.Happened.{Happened};
 ghost use Rattle.binrec.specs.Plans.Told.{IsExact, IsComplete, HasCause};
-ghost use Rattle.binrec.specs.Words.{Builds, command};
+ghost use Rattle.word_reader.specs.Words.{Builds, Runs};
+ghost use Rattle.binrec.specs.Words.{asked_by, word_of_guest};
 ghost use Rattle.binrec.specs.Commands.{plan, end_of};
-ghost use Rattle.binrec.specs.Meaning.{MeansBuild, MeansUsage};
+ghost use Rattle.binrec.specs.Meaning.{MeansBuild, MeansRun, MeansUsage};
 
 use crate::acts::report::{tell, tell_stop};
 use crate::acts::stop::{Cause, Outcome, Stop};
 use crate::commands::build::build_command;
-use crate::words::{Command, read_words};
+use crate::commands::run::run_command;
+use crate::words::{read_command, word_of_guest};
 use br_outside::{Shelf, Sink, Source};
 use build_core::image_law;
+use word_reader::Command;
 use std::alloc::Global;
 
 /// The status of a command, with which the program ends.
@@ -21,11 +24,23 @@ use std::alloc::Global;
 pub struct Status(pub u8);
 
 /// The work of the command, before the report line.
-fn work<F: Shelf>(alloc: Global, words: &[String], shelf: &mut F) -> Result<Outcome, Stop>
-    ensures { (w : World) → Went (plan (map string_bytes words.now)) (on_shelf w (F.seen shelf.old)) (end_of result) (on_shelf w (F.seen shelf.new)) }
+fn work<F: Shelf, I: Source, O: Sink, R: Sink>(
+    alloc: Global,
+    words: &[String],
+    shelf: &mut F,
+    input: &mut I,
+    out: &mut O,
+    report: &mut R,
+) -> Result<Outcome, Stop>
+    ensures { Went (plan (map string_bytes words.now)) (world (F.seen shelf.old) (I.seen input.old) (O.seen out.old) (R.seen report.old)) (end_of result) (world (F.seen shelf.new) (I.seen input.new) (O.seen out.new) (R.seen report.new)) }
 {
-    match read_words(words) {
-        Ok(Command::Build(image, original)) => build_command(alloc, shelf, image, original),
+    let word = word_of_guest(words);
+    match read_command(words) {
+        Ok(Command::Build { n, e, .. }) => build_command(alloc, shelf, n, e),
+        Ok(Command::Run { steps, e, args }) => {
+            run_command(alloc, shelf, input, out, report, steps, e, args, word)
+        }
+        Ok(_) => Err(Stop::Because(Cause::Usage(0))),
         Err(at) => Err(Stop::Because(Cause::Usage(at))),
     }
 }
@@ -78,12 +93,15 @@ pub fn binrec<F: Shelf, I: Source, O: Sink, R: Sink>(
     ensures usage { MeansUsage (map string_bytes words.now)
         (world (F.seen shelf.old) (I.seen input.old) (O.seen out.old) (R.seen report.old)) result.0
         (world (F.seen shelf.new) (I.seen input.new) (O.seen out.new) (R.seen report.new)) }
-    ensures build { (name original : List ℕ) → command (map string_bytes words.now) ≡ Ok (Builds name original) → MeansBuild name original
+    ensures build { (name original : List ℕ) → asked_by (map string_bytes words.now) ≡ Ok (Builds name original []) → MeansBuild name original
+        (world (F.seen shelf.old) (I.seen input.old) (O.seen out.old) (R.seen report.old)) result.0
+        (world (F.seen shelf.new) (I.seen input.new) (O.seen out.new) (R.seen report.new)) }
+    ensures run { (steps : ℕ) (name : List ℕ) (args : List (List ℕ)) → asked_by (map string_bytes words.now) ≡ Ok (Runs steps name args) → MeansRun steps name args (word_of_guest (map string_bytes words.now))
         (world (F.seen shelf.old) (I.seen input.old) (O.seen out.old) (R.seen report.old)) result.0
         (world (F.seen shelf.new) (I.seen input.new) (O.seen out.new) (R.seen report.new)) }
 {
     image_law();
-    match work(alloc, words, shelf) {
+    match work(alloc, words, shelf, input, out, report) {
         Ok(outcome) => Status(tell(report, outcome.line.as_bytes(), outcome.finish.status())),
         Err(stop) => Status(tell_stop(alloc, report, stop)),
     }

@@ -1,58 +1,49 @@
-//! The words of the command line.
-ghost use Rattle.std.specs.Prelude.{◌≡◌, ◌+◌, ◌<◌, ◌^◌, map, string_bytes};
-ghost use Rattle.binrec.specs.Words.{Reads, ReadsName, build_words, command, is_name};
+//! The commands that there are so far.
+ghost use Rattle.std.specs.Prelude.{◌≡◌, map, string_bytes};
+ghost use Rattle.binrec.specs.Words.{Reads, asked_by, wrong_at, word_of_guest};
 
-/// A command with its words.
-pub enum Command<'a> {
-    /// Stores the image of an original: the name to store it under, and the original's name.
-    Build(&'a str, &'a str),
-}
+use word_reader::{Command, read_words};
 
-/// Whether a word is a name: a text of 1 to 4096 bytes.
-fn is_name(word: &str) -> bool
-    ensures { result ≡ is_name word.now }
+/// The position of the first wrong word, by the command's own word: `build` takes no word behind its
+/// second name yet, and the other commands but `run` are not there yet.
+fn wrong_at(at: u32, words: &[String]) -> u32
+    ensures { result ≡ wrong_at at (map string_bytes words.now) }
 {
-    1 <= word.len() && word.len() <= 4096
-}
-
-/// The next word, which is a name, and the words after it. The error is its position, where it is
-/// missing or is no name.
-fn next_name(words: &[String], at: u32) -> Result<(&str, &[String]), u32>
-    ensures { ReadsName at result (map string_bytes words.now) }
-{
-    let Some((word, rest)) = words.split_first() else {
-        return Err(at);
+    let [first, ..] = words else {
+        return 0;
     };
-    if !is_name(word.as_str()) {
-        return Err(at);
+    if first.as_str() == "build" {
+        return at.min(3);
     }
-    Ok((word.as_str(), rest))
+    if first.as_str() == "run" { at } else { 0 }
 }
 
-/// Reads the words after `build`: the name to store the image under, and the name of the original.
-fn read_build(words: &[String]) -> Result<Command<'_>, u32>
-    ensures { Reads result (build_words (map string_bytes words.now)) }
-{
-    let (image, words) = next_name(words, 1)?;
-    let (original, words) = next_name(words, 2)?;
-    if !words.is_empty() {
-        return Err(3);
-    }
-    Ok(Command::Build(image, original))
-}
-
-/// Reads the words after the program's name.
+/// Reads the words after the program's name as `build` or `run`.
 ///
-/// The error is the position, from 0, of the first word that is wrong, or the number of words
-/// where one is missing.
-pub fn read_words(words: &[String]) -> Result<Command<'_>, u32>
-    ensures { Reads result (command (map string_bytes words.now)) }
+/// The error is the position, from 0, of the first word that is wrong, or the number of words where
+/// one is missing; 0 for a command that is not there yet.
+pub fn read_command(words: &[String]) -> Result<Command<'_>, u32>
+    ensures { Reads result (asked_by (map string_bytes words.now)) }
 {
-    let Some((first, rest)) = words.split_first() else {
-        return Err(0);
-    };
-    if first.as_str() != "build" {
-        return Err(0);
+    match read_words(words) {
+        Ok(Command::Build { n, e, traces }) => {
+            if !traces.is_empty() {
+                return Err(3);
+            }
+            Ok(Command::Build { n, e, traces })
+        }
+        Ok(Command::Run { steps, e, args }) => Ok(Command::Run { steps, e, args }),
+        Ok(_) => Err(0),
+        Err(usage) => Err(wrong_at(usage.at, words)),
     }
-    read_build(rest)
+}
+
+/// The position of the word that names the file of `run`.
+pub fn word_of_guest(words: &[String]) -> u32
+    ensures { result ≡ word_of_guest (map string_bytes words.now) }
+{
+    let [_, second, ..] = words else {
+        return 1;
+    };
+    if second.as_str() == "--steps" { 3 } else { 1 }
 }

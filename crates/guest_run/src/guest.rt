@@ -4,7 +4,7 @@ ghost use Rattle.elf_read.specs.Elf.{IsGuest};
 ghost use Rattle.br_word.specs.State.{all_flags};
 ghost use Rattle.guest_sys.specs.Streams.{Streams};
 ghost use Rattle.guest_run.specs.Opening.{FitArguments};
-ghost use Rattle.guest_run.specs.Guest.{Steps, Runs, beginning, streams};
+ghost use Rattle.guest_run.specs.Guest.{Steps, Runs, beginning, streams, answer_of};
 
 use crate::advance::advance;
 use crate::opening::{stack_pointer, stack_top};
@@ -100,6 +100,13 @@ impl Guest {
         ensures { result ≡ self.now.live }
     {
         self.live
+    }
+
+    /// How the guest stands: `Budget` while it runs.
+    pub fn stop(&self) -> Stop
+        ensures { result ≡ answer_of self.now.state.stop }
+    {
+        self.stop
     }
 
     /// The address of the next instruction.

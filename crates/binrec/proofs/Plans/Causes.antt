@@ -11,7 +11,7 @@ use Rattle.br_outside.specs.declared.errors.StoreError.TheVariants as store_erro
 use Rattle.br_outside.specs.declared.errors.SinkError.{SinkError}
 use Rattle.br_outside.specs.declared.errors.SinkError.TheVariants as sink_errors
 use Rattle.binrec.specs.Plans.World.{World, on_shelf, on_input, on_out, on_report, faults_of, calm_of}
-use Rattle.binrec.specs.Plans.Plan.{Plan, Ends, Fetches, Stores, Prints, Reports, Reads, ReadError, ReadFailed, ReadMemory, Read, Went, Run, RunsOut, Fails, AfterFetch, AfterStore, AfterGive, AfterRead, planned_end}
+use Rattle.binrec.specs.Plans.Plan.{Plan, Ends, Fetches, Stores, Prints, Turned, Turns, Went, Run, RunsOut, CallFails, AfterFetch, AfterStore, AfterGive, IsTurned, AfterTurn, GoesOn, FailsInput, FailsOutput, FailsReport, WantsMemory, planned_end}
 use Rattle.binrec.specs.Plans.Texts.{Finished, End, end_text, end_status, object_text, finish_status, cause_status}
 use Rattle.binrec.specs.declared.acts.stop.Stop.{Stop}
 use Rattle.binrec.specs.declared.acts.stop.Stop.TheVariants.{Because, Outside, Memory}
@@ -21,7 +21,8 @@ use Rattle.binrec.specs.declared.acts.stop.Finish.TheVariants as finishes
 use Rattle.binrec.specs.declared.acts.stop.Object.{Object}
 use Rattle.binrec.specs.declared.acts.stop.Object.TheVariants as objects
 use Rattle.binrec.specs.declared.acts.stop.Limit.TheVariants as limits
-use Rattle.binrec.proofs.Plans.Steps.{IsKept, same_kept, then_kept, shelf_kept, input_kept, out_kept, report_kept, rises, no_fault}
+use Rattle.binrec.proofs.Plans.Steps.{IsKept, same_kept, then_kept, shelf_kept, out_kept, report_kept, rises, no_fault}
+use Rattle.binrec.proofs.Plans.Turns.{turned_kept, input_fails_kept, output_fails_kept, report_fails_kept, runs_out_kept}
 
 -- a step to where the run ends
 kept_at : (s m t : World) → IsKept s m → t ≡ m → IsKept s t
@@ -45,14 +46,12 @@ kept (Prints text next) s o t (inl out) = same_kept s t out.1
 kept (Prints text next) s o t (inr (v, Ok u, was, went)) = then_kept s (on_out s v) t (out_kept s v was.later was.calm) (kept next (on_out s v) o t went)
 kept (Prints text next) s o t (inr (v, Err sink_errors.Failed, was, went)) = kept_at s (on_out s v) t (out_kept s v was.later was.calm) went.1
 kept (Prints text next) s o t (inr (v, Err sink_errors.Memory, was, went)) = kept_at s (on_out s v) t (out_kept s v was.later was.calm) went.1
-kept (Reports text next) s o t (inl out) = same_kept s t out.1
-kept (Reports text next) s o t (inr (v, Ok u, was, went)) = then_kept s (on_report s v) t (report_kept s v text (Ok u) was) (kept next (on_report s v) o t went)
-kept (Reports text next) s o t (inr (v, Err sink_errors.Failed, was, went)) = kept_at s (on_report s v) t (report_kept s v text (Err sink_errors.Failed) was) went.1
-kept (Reports text next) s o t (inr (v, Err sink_errors.Memory, was, went)) = kept_at s (on_report s v) t (report_kept s v text (Err sink_errors.Memory) was) went.1
-kept (Reads most next) s o t (inl out) = same_kept s t out.1
-kept (Reads most next) s o t (inr (v, Ok bytes, was, went)) = then_kept s (on_input s v) t (input_kept s v was.later was.calm) (kept (next bytes) (on_input s v) o t went)
-kept (Reads most next) s o t (inr (v, Err ReadFailed, was, went)) = kept_at s (on_input s v) t (input_kept s v was.later was.calm) went.1
-kept (Reads most next) s o t (inr (v, Err ReadMemory, was, went)) = kept_at s (on_input s v) t (input_kept s v was.later was.calm) went.1
+kept (Turns turn next) s o t (inl out) = same_kept s t out.1
+kept (Turns turn next) s o t (inr (left, told, GoesOn m turned went)) = then_kept s m t (turned_kept (turn left) s m turned) (kept (next left) m o t went)
+kept (Turns turn next) s o t (inr (left, told, FailsInput h)) = input_fails_kept (turn left) left s o t h
+kept (Turns turn next) s o t (inr (left, told, FailsOutput h)) = output_fails_kept (turn left) s o t h
+kept (Turns turn next) s o t (inr (left, told, FailsReport h)) = report_fails_kept (turn left) s o t h
+kept (Turns turn next) s o t (inr (left, told, WantsMemory h)) = runs_out_kept (turn left) left s o t h
 
 -- the count of this object rose, after a step or at the end
 abbrev pub Risen : Object → World → World → Type 0
@@ -65,12 +64,19 @@ pub risen_still : (x : Object) (s m t : World) → IsKept m t → Risen x s m �
 risen_still x s m t kept rose = omega (arith, rose, kept.later x)
 
 -- the call of y failed, and so the end names y
-named : (x y : Object) (s m : World) (o : End) (t : World) → o ≡ Err (Outside x) → Fails y m o t → Risen y s m → Risen x s t
+named : (x y : Object) (s m : World) (o : End) (t : World) → o ≡ Err (Outside x) → CallFails y m o t → Risen y s m → Risen x s t
 named x y s m o t is fails rose =
     let same : y ≡ x = (let e : o ≡ Err (Outside y) = fails.0 in cc) in
     let P : World → Type 0 = λ t. Risen x s t in
     let Q : Object → Type 0 = λ y. Risen y s m in
     subst P (sym fails.1) (subst Q same rose)
+
+-- the end names this object, whose call failed
+names : (x y : Object) (s : World) (o : End) (t : World) → o ≡ Err (Outside x) → o ≡ Err (Outside y) → Risen y s t → Risen x s t
+names x y s o t is fails rose =
+    let same : y ≡ x = cc in
+    let Q : Object → Type 0 = λ y. Risen y s t in
+    subst Q same rose
 
 -- An end that names an object comes only where its count rose.
 pub caused : (p : Plan) (s : World) (o : End) (t : World) (x : Object) → o ≡ Err (Outside x) → Went p s o t → Risen x s t
@@ -90,11 +96,9 @@ caused (Prints text next) s o t x is (inl out) = let m : o ≡ Err Memory = out.
 caused (Prints text next) s o t x is (inr (v, Ok u, was, went)) = risen_later x s (on_out s v) t (out_kept s v was.later was.calm) (caused next (on_out s v) o t x is went)
 caused (Prints text next) s o t x is (inr (v, Err sink_errors.Failed, was, went)) = named x objects.Output s (on_out s v) o t is went was.gives.1
 caused (Prints text next) s o t x is (inr (v, Err sink_errors.Memory, was, went)) = let m : o ≡ Err Memory = went.0 in cc
-caused (Reports text next) s o t x is (inl out) = let m : o ≡ Err Memory = out.0 in cc
-caused (Reports text next) s o t x is (inr (v, Ok u, was, went)) = risen_later x s (on_report s v) t (report_kept s v text (Ok u) was) (caused next (on_report s v) o t x is went)
-caused (Reports text next) s o t x is (inr (v, Err sink_errors.Failed, was, went)) = named x objects.Report s (on_report s v) o t is went was.gives.1
-caused (Reports text next) s o t x is (inr (v, Err sink_errors.Memory, was, went)) = let m : o ≡ Err Memory = went.0 in cc
-caused (Reads most next) s o t x is (inl out) = let m : o ≡ Err Memory = out.0 in cc
-caused (Reads most next) s o t x is (inr (v, Ok bytes, was, went)) = risen_later x s (on_input s v) t (input_kept s v was.later was.calm) (caused (next bytes) (on_input s v) o t x is went)
-caused (Reads most next) s o t x is (inr (v, Err ReadFailed, was, went)) = named x objects.Input s (on_input s v) o t is went was.gives.1
-caused (Reads most next) s o t x is (inr (v, Err ReadMemory, was, went)) = let m : o ≡ Err Memory = went.0 in cc
+caused (Turns turn next) s o t x is (inl out) = let m : o ≡ Err Memory = out.0 in cc
+caused (Turns turn next) s o t x is (inr (left, told, GoesOn m turned went)) = risen_later x s m t (turned_kept (turn left) s m turned) (caused (next left) m o t x is went)
+caused (Turns turn next) s o t x is (inr (left, told, FailsInput h)) = names x objects.Input s o t is h.ends h.fails.rose
+caused (Turns turn next) s o t x is (inr (left, told, FailsOutput h)) = names x objects.Output s o t is h.ends h.fails.rose
+caused (Turns turn next) s o t x is (inr (left, told, FailsReport h)) = names x objects.Report s o t is h.ends h.fails.rose
+caused (Turns turn next) s o t x is (inr (left, told, WantsMemory h)) = let m : o ≡ Err Memory = h.ends in cc

@@ -11,7 +11,7 @@ use Rattle.br_outside.specs.declared.errors.StoreError.TheVariants as store_erro
 use Rattle.br_outside.specs.declared.errors.SinkError.{SinkError}
 use Rattle.br_outside.specs.declared.errors.SinkError.TheVariants as sink_errors
 use Rattle.binrec.specs.Plans.World.{World, on_shelf, on_input, on_out, on_report, faults_of, calm_of}
-use Rattle.binrec.specs.Plans.Plan.{Plan, Ends, Fetches, Stores, Prints, Reports, Reads, ReadError, ReadFailed, ReadMemory, Read, Went, Run, RunsOut, Fails, AfterFetch, AfterStore, AfterGive, AfterRead, planned_end}
+use Rattle.binrec.specs.Plans.Plan.{Plan, Ends, Fetches, Stores, Prints, Turned, Turns, Went, Run, RunsOut, CallFails, AfterFetch, AfterStore, AfterGive, IsTurned, AfterTurn, GoesOn, FailsInput, FailsOutput, FailsReport, WantsMemory, planned_end}
 use Rattle.binrec.specs.Plans.Texts.{Finished, End, end_text, end_status, object_text, finish_status, cause_status}
 use Rattle.binrec.specs.declared.acts.stop.Stop.{Stop}
 use Rattle.binrec.specs.declared.acts.stop.Stop.TheVariants.{Because, Outside, Memory}
@@ -21,7 +21,7 @@ use Rattle.binrec.specs.declared.acts.stop.Finish.TheVariants as finishes
 use Rattle.binrec.specs.declared.acts.stop.Object.{Object}
 use Rattle.binrec.specs.declared.acts.stop.Object.TheVariants as objects
 use Rattle.binrec.specs.declared.acts.stop.Limit.TheVariants as limits
-use Rattle.binrec.specs.Plans.Told.{Ending, expected, IsTold, HasFailed, IsWhole, Decided, IsExact, IsUnchanged, IsCalm, IsComplete, EndsWith, HasCause}
+use Rattle.binrec.specs.Plans.Told.{Ending, expected, IsSparing, IsTold, HasFailed, IsWhole, Decided, IsExact, IsUnchanged, IsCalm, IsComplete, EndsWith, HasCause}
 use Rattle.binrec.specs.Plans.Happened.{Tells, Reported, Happened, status_after}
 use Rattle.binrec.proofs.Plans.Steps.{IsKept, two_texts, report_kept, rises, failed_still}
 use Rattle.binrec.proofs.Plans.Told.{IsDone, Follows, follows}
@@ -58,11 +58,11 @@ given files left e s o m v result t u gave is same (inr (inr done)) =
       rose = λ h. done.rose (done.ends ∙ h);
     })))
 
-pub exact : (p : Plan) (s : World) (result : ℕ) (t : World) → Happened p s result t → IsExact p s result t
-exact p s result t (o, m, went, inl gave_up) files left told = inl gave_up.0
-exact p s result t (o, m, went, inr (v, (Ok u, gave, is), same)) files left told = given files left (expected p files left) s o m v result t u gave is same (follows p files left s o m told went)
-exact p s result t (o, m, went, inr (v, (Err sink_errors.Failed, gave, is), same)) files left told = inr (inl (is, objects.Report, report_failed s m v t (kept p s o m went) same gave.gives.1 gave.gives.2))
-exact p s result t (o, m, went, inr (v, (Err sink_errors.Memory, gave, is), same)) files left told = inl is
+pub exact : (p : Plan) (s : World) (result : ℕ) (t : World) → IsSparing p → Happened p s result t → IsExact p s result t
+exact p s result t sparing (o, m, went, inl gave_up) files left told = inl gave_up.0
+exact p s result t sparing (o, m, went, inr (v, (Ok u, gave, is), same)) files left told = given files left (expected p files left) s o m v result t u gave is same (follows p files left s o m sparing told went)
+exact p s result t sparing (o, m, went, inr (v, (Err sink_errors.Failed, gave, is), same)) files left told = inr (inl (is, objects.Report, report_failed s m v t (kept p s o m went) same gave.gives.1 gave.gives.2))
+exact p s result t sparing (o, m, went, inr (v, (Err sink_errors.Memory, gave, is), same)) files left told = inl is
 
 unchanged_rose : (a b : ℕ) → b ≡ a → a < 2 ^ 64 - 1 → Rose a b → ⊥
 unchanged_rose a b e h r = omega arith
@@ -76,8 +76,8 @@ no_failure files left e s result t (inr (inl (is, x, failed))) (inr calm) = absu
 no_failure files left e s result t (inr (inr whole)) (inl same) = inr (whole, λ h. unchanged_rose s.shelf.faults t.shelf.faults (same objects.Shelf).0 (same objects.Shelf).1 (whole.rose h))
 no_failure files left e s result t (inr (inr whole)) (inr calm) = inr (whole, calm.there)
 
-pub complete : (p : Plan) (s : World) (result : ℕ) (t : World) → Happened p s result t → IsComplete p s result t
-complete p s result t happened files left told premise = no_failure files left (expected p files left) s result t (exact p s result t happened files left told) premise
+pub complete : (p : Plan) (s : World) (result : ℕ) (t : World) → IsSparing p → Happened p s result t → IsComplete p s result t
+complete p s result t sparing happened files left told premise = no_failure files left (expected p files left) s result t (exact p s result t sparing happened files left told) premise
 
 -- a status that is 3 is that of an object that failed
 status_3 : (o : End) → end_status o ≡ 3 → (x : Object) × (o ≡ Err (Outside x))

@@ -11,7 +11,7 @@ use Rattle.br_outside.specs.declared.errors.StoreError.TheVariants as store_erro
 use Rattle.br_outside.specs.declared.errors.SinkError.{SinkError}
 use Rattle.br_outside.specs.declared.errors.SinkError.TheVariants as sink_errors
 use Rattle.binrec.specs.Plans.World.{World, on_shelf, on_input, on_out, on_report, faults_of, calm_of}
-use Rattle.binrec.specs.Plans.Plan.{Plan, Ends, Fetches, Stores, Prints, Reports, Reads, ReadError, ReadFailed, ReadMemory, Read, Went, Run, RunsOut, Fails, AfterFetch, AfterStore, AfterGive, AfterRead, planned_end}
+use Rattle.binrec.specs.Plans.Plan.{Plan, Ends, Fetches, Stores, Prints, Turned, Turns, Went, Run, RunsOut, CallFails, AfterFetch, AfterStore, AfterGive, IsTurned, AfterTurn, GoesOn, FailsInput, FailsOutput, FailsReport, WantsMemory, planned_end}
 use Rattle.binrec.specs.Plans.Texts.{Finished, End, end_text, end_status, object_text, finish_status, cause_status}
 use Rattle.binrec.specs.declared.acts.stop.Stop.{Stop}
 use Rattle.binrec.specs.declared.acts.stop.Stop.TheVariants.{Because, Outside, Memory}
@@ -21,8 +21,9 @@ use Rattle.binrec.specs.declared.acts.stop.Finish.TheVariants as finishes
 use Rattle.binrec.specs.declared.acts.stop.Object.{Object}
 use Rattle.binrec.specs.declared.acts.stop.Object.TheVariants as objects
 use Rattle.binrec.specs.declared.acts.stop.Limit.TheVariants as limits
-use Rattle.binrec.specs.Plans.Told.{Ending, ends_with, after_fetch, printed_before, reported_before, expected, NoFiles, NoInput, IsTold, HasFailed}
-use Rattle.binrec.proofs.Plans.Steps.{IsKept, nothing, two_texts, shelf_kept, input_kept, out_kept, report_kept, rises, fails_later, no_fault}
+use Rattle.binrec.specs.Plans.Told.{Ending, ends_with, after_fetch, printed_before, turned_before, expected, NoFiles, NoInput, IsSparing, LeavesBut, IsTold, HasFailed}
+use Rattle.binrec.proofs.Plans.Steps.{IsKept, nothing, two_texts, shelf_kept, out_kept, rises, fails_later, no_fault}
+use Rattle.binrec.proofs.Plans.Turns.{turned_kept}
 
 -- a step of a run: the files, the input left, and what it printed and reported
 record IsStep (files : Files) (left : List ℕ) (files' : Files) (left' : List ℕ) (printed reported : List ℕ) (s m : World) : Type 0 where
@@ -36,7 +37,7 @@ record IsStep (files : Files) (left : List ℕ) (files' : Files) (left' : List �
 pub record IsDone (files : Files) (left : List ℕ) (e : Ending) (s : World) (o : End) (t : World) : Type 0 where
   pub ends : o ≡ e.end
   pub shelf : s.shelf.files ≡ Some files → t.shelf.files ≡ Some e.files
-  pub input : s.input.bytes ≡ Some left → t.input.bytes ≡ Some e.left
+  pub input : s.input.bytes ≡ Some left → LeavesBut e.spare e.left t.input.bytes
   pub out : t.out.bytes ≡ option_map (λ w. w ++ e.printed) s.out.bytes
   pub report : t.report.bytes ≡ option_map (λ w. w ++ e.reported) s.report.bytes
   pub rose : o ≡ Err (Outside objects.Shelf) → Rose s.shelf.faults t.shelf.faults
@@ -48,17 +49,9 @@ shelf_step : (files files' : Files) (left : List ℕ) (s : World) (v : ShelfView
     → (s.shelf.files ≡ Some files → v.files ≡ Some files') → IsStep files left files' left [] [] s (on_shelf s v)
 shelf_step files files' left s v later calm holds = record { kept = shelf_kept s v later calm; shelf = holds; input = λ h. h; out = nothing s.out.bytes; report = nothing s.report.bytes }
 
-input_step : (files : Files) (left left' : List ℕ) (s : World) (v : StreamView) → s.input.faults ≤ v.faults → v.calm ≡ s.input.calm
-    → (s.input.bytes ≡ Some left → v.bytes ≡ Some left') → IsStep files left files left' [] [] s (on_input s v)
-input_step files left left' s v later calm has = record { kept = input_kept s v later calm; shelf = λ h. h; input = has; out = nothing s.out.bytes; report = nothing s.report.bytes }
-
 out_step : (files : Files) (left text : List ℕ) (s : World) (v : StreamView) → s.out.faults ≤ v.faults → v.calm ≡ s.out.calm
     → v.bytes ≡ option_map (λ w. w ++ text) s.out.bytes → IsStep files left files left text [] s (on_out s v)
 out_step files left text s v later calm grew = record { kept = out_kept s v later calm; shelf = λ h. h; input = λ h. h; out = grew; report = nothing s.report.bytes }
-
-report_step : (files : Files) (left text : List ℕ) (s : World) (v : StreamView) (answer : Result (Unit {0}) SinkError) → Gave text answer s.report v
-    → v.bytes ≡ option_map (λ w. w ++ text) s.report.bytes → IsStep files left files left [] text s (on_report s v)
-report_step files left text s v answer gave grew = record { kept = report_kept s v text answer gave; shelf = λ h. h; input = λ h. h; out = nothing s.out.bytes; report = grew }
 
 still : (files : Files) (left : List ℕ) (s : World) → IsStep files left files left [] [] s s
 still files left s = shelf_step files files left s s.shelf (omega arith) refl (λ h. h)
@@ -89,7 +82,7 @@ stops_at : (files : Files) (left : List ℕ) (files' : Files) (left' : List ℕ)
     → Follows files left (ends_with end files' left') s o t
 stops_at files left files' left' end s m o t step is same rose =
     let P : World → Type 0 = λ t. IsDone files left (ends_with end files' left') s o t in
-    inr (inr (subst P (sym same) (record { ends = is; shelf = step.shelf; input = step.input; out = step.out; report = step.report; rose = rose })))
+    inr (inr (subst P (sym same) (record { ends = is; shelf = step.shelf; input = λ h. (0, omega arith, step.input h); out = step.out; report = step.report; rose = rose })))
 
 failed_at : (x : Object) (s m t : World) → t ≡ m → Rose (faults_of x s) (faults_of x m) → (IsTrue (calm_of x s) → ⊥) → HasFailed x s t
 failed_at x s m t same rose loud = let P : World → Type 0 = λ t. HasFailed x s t in subst P (sym same) (record { rose = rose; loud = loud })
@@ -137,46 +130,103 @@ either (inr b) f g = inr (g b)
 stored_files : (name bytes : List ℕ) (files : Files) (s : World) (v : ShelfView) (u : Unit {0}) → Stored name bytes (Ok u) s.shelf v → s.shelf.files ≡ Some files → v.files ≡ Some (put name (Some bytes) files)
 stored_files name bytes files s v u was told = was.gives.0 ∙ ap (option_map (put name (Some bytes))) told
 
-pub follows : (p : Plan) (files : Files) (left : List ℕ) (s : World) (o : End) (t : World) → IsTold p files left s → Went p s o t → Follows files left (expected p files left) s o t
-unfolding Went expected NoFiles NoInput
-follows (Ends end) files left s o t told (inl out) = inl out.0
-follows (Ends end) files left s o t told (inr (is, same)) = stops_at files left files left _ s s o t (still files left s) is same (λ h. absurd (no_fault end o objects.Shelf is h))
-follows (Fetches name limit next) files left s o t told (inl out) = inl out.0
-follows (Fetches name limit next) files left s o t told (inr (v, Ok bytes, was, went)) =
+-- ---- a turn
+
+input_after : (d : Turned) (left : List ℕ) (s m : World) (h : IsTurned d s m) → s.input.bytes ≡ Some left → m.input.bytes ≡ Some (drop h.more d.left)
+input_after d left s m h has = told_to s.input.bytes left (λ b. m.input.bytes ≡ Some (drop h.more d.left)) has h.input.bytes
+
+none_more : (n k : ℕ) → n ≤ k → k ≡ 0 → n ≡ 0
+none_more n k h e = omega arith
+
+turned_step : (files : Files) (left : List ℕ) (d : Turned) (s m : World) → IsTurned d s m → d.spare ≡ 0 → IsStep files left files d.left d.printed d.reported s m
+turned_step files left d s m h none = record {
+  kept = turned_kept d s m h;
+  shelf = λ told. ap (λ v. v.files) h.shelf ∙ told;
+  input = λ has. input_after d left s m h has ∙ ap (λ n. Some (drop n d.left)) (none_more h.more d.spare h.few none);
+  out = h.out.bytes;
+  report = h.report.bytes;
+}
+
+-- more of the input may be taken
+widened : (files : Files) (left : List ℕ) (k : ℕ) (e : Ending) (s : World) (o : End) (t : World) → Follows files left e s o t → Follows files left (record e { spare = k + e.spare }) s o t
+widened files left k e s o t (inl memory) = inl memory
+widened files left k e s o t (inr (inl failed)) = inr (inl failed)
+widened files left k e s o t (inr (inr done)) = inr (inr (record {
+  ends = done.ends;
+  shelf = done.shelf;
+  input = λ has. let h = done.input has in (h.0, omega (arith, h.1), h.2);
+  out = done.out;
+  report = done.report;
+  rose = done.rose;
+}))
+
+-- the last turn
+last_turn : (d : Turned) (end : Result Finished Cause) (files : Files) (left : List ℕ) (s m : World) (o : End) (t : World) → s.input.bytes ≡ Some left → IsTurned d s m → Went (Ends end) m o t
+    → Follows files left (turned_before d (expected (Ends end) files d.left)) s o t
+unfolding Went expected
+last_turn d end files left s m o t has h (inl out) = inl out.0
+last_turn d end files left s m o t has h (inr (is, same)) =
+    let P : World → Type 0 = λ t. IsDone files left (turned_before d (ends_with (planned_end end) files d.left)) s o t in
+    inr (inr (subst P (sym same) (record {
+      ends = is;
+      shelf = λ told. ap (λ v. v.files) h.shelf ∙ told;
+      input = λ told. (h.more, omega (arith, h.few), input_after d left s m h told);
+      out = two_texts s.out.bytes m.out.bytes m.out.bytes d.printed [] h.out.bytes (nothing m.out.bytes);
+      report = two_texts s.report.bytes m.report.bytes m.report.bytes d.reported [] h.report.bytes (nothing m.report.bytes);
+      rose = λ f. absurd (no_fault end o objects.Shelf is f);
+    })))
+
+-- a turn, and what follows by what comes after it
+turn_follows : (d : Turned) (q : Plan) (files : Files) (left : List ℕ) (s : World) (o : End) (t : World) → s.input.bytes ≡ Some left → NoFiles q ⊎ (s.shelf.files ≡ Some files)
+    → (d.spare ≡ 0) ⊎ ((end : Result Finished Cause) × (q ≡ Ends end))
+    → ((m : World) → IsTold q files d.left m → Went q m o t → Follows files d.left (expected q files d.left) m o t)
+    → AfterTurn d left (Went q) s o t → Follows files left (turned_before d (expected q files d.left)) s o t
+turn_follows d q files left s o t has shelf (inl none) then (GoesOn m h went) =
+    let step : IsStep files left files d.left d.printed d.reported s m = turned_step files left d s m h none in
+    widened files left d.spare _ s o t (after files left files d.left d.printed d.reported (expected q files d.left) s m o t step
+    (then m (record { shelf = either shelf (λ a. a) (λ b. ap (λ v. v.files) h.shelf ∙ b); input = inr (step.input has) }) went))
+turn_follows d q files left s o t has shelf (inr (end, is)) then (GoesOn m h went) =
+    let P : Plan → Type 0 = λ q. Follows files left (turned_before d (expected q files d.left)) s o t in
+    let Q : Plan → Type 0 = λ q. Went q m o t in
+    subst P (sym is) (last_turn d end files left s m o t has h (subst Q is went))
+turn_follows d q files left s o t has shelf sparing then (FailsInput h) = inr (inl (objects.Input, h.ends, record { rose = h.fails.rose; loud = h.fails.uncalm }))
+turn_follows d q files left s o t has shelf sparing then (FailsOutput h) = inr (inl (objects.Output, h.ends, record { rose = h.fails.rose; loud = h.fails.uncalm }))
+turn_follows d q files left s o t has shelf sparing then (FailsReport h) = inr (inl (objects.Report, h.ends, record { rose = h.fails.rose; loud = h.fails.uncalm }))
+turn_follows d q files left s o t has shelf sparing then (WantsMemory h) = inl h.ends
+
+pub follows : (p : Plan) (files : Files) (left : List ℕ) (s : World) (o : End) (t : World) → IsSparing p → IsTold p files left s → Went p s o t → Follows files left (expected p files left) s o t
+unfolding Went expected NoFiles NoInput IsSparing
+follows (Ends end) files left s o t sparing told (inl out) = inl out.0
+follows (Ends end) files left s o t sparing told (inr (is, same)) = stops_at files left files left _ s s o t (still files left s) is same (λ h. absurd (no_fault end o objects.Shelf is h))
+follows (Fetches name limit next) files left s o t sparing told (inl out) = inl out.0
+follows (Fetches name limit next) files left s o t sparing told (inr (v, Ok bytes, was, went)) =
     let holds : s.shelf.files ≡ Some files = asked told.shelf (λ a. a) in
     let here : files name ≡ Some bytes = told_to s.shelf.files files (λ f. f name ≡ Some bytes) holds was.gives.1 in
     let P : Ending → Type 0 = λ e. Follows files left e s o t in
     subst P (fetch_ok limit (λ bytes. expected (next bytes) files left) files left bytes (files name) here was.gives.0)
     (after files left files left [] [] _ s (on_shelf s v) o t (shelf_step files files left s v was.later was.calm (λ h. was.same ∙ h))
-    (follows (next bytes) files left (on_shelf s v) o t (record { shelf = inr (was.same ∙ holds); input = either told.input (λ a. a bytes) (λ b. b) }) went))
-follows (Fetches name limit next) files left s o t told (inr (v, Err shelf_errors.Failed, was, went)) =
+    (follows (next bytes) files left (on_shelf s v) o t (sparing bytes) (record { shelf = inr (was.same ∙ holds); input = either told.input (λ a. a bytes) (λ b. b) }) went))
+follows (Fetches name limit next) files left s o t sparing told (inr (v, Err shelf_errors.Failed, was, went)) =
     failed_fetch limit (λ bytes. expected (next bytes) files left) files left name s v o t (asked told.shelf (λ a. a)) was went.0 went.1 (files name) refl
-follows (Fetches name limit next) files left s o t told (inr (v, Err shelf_errors.TooLong, was, went)) =
+follows (Fetches name limit next) files left s o t sparing told (inr (v, Err shelf_errors.TooLong, was, went)) =
     long_fetch limit (λ bytes. expected (next bytes) files left) files left name s v o t (asked told.shelf (λ a. a)) was went.0 went.1
-follows (Fetches name limit next) files left s o t told (inr (v, Err shelf_errors.Memory, was, went)) = inl went.0
-follows (Stores name bytes next) files left s o t told (inl out) = inl out.0
-follows (Stores name bytes next) files left s o t told (inr (v, Ok u, was, went)) =
+follows (Fetches name limit next) files left s o t sparing told (inr (v, Err shelf_errors.Memory, was, went)) = inl went.0
+follows (Stores name bytes next) files left s o t sparing told (inl out) = inl out.0
+follows (Stores name bytes next) files left s o t sparing told (inr (v, Ok u, was, went)) =
     let holds : s.shelf.files ≡ Some files = asked told.shelf (λ a. a) in
     after files left (put name (Some bytes) files) left [] [] _ s (on_shelf s v) o t (shelf_step files (put name (Some bytes) files) left s v was.later was.calm (stored_files name bytes files s v u was))
-    (follows next (put name (Some bytes) files) left (on_shelf s v) o t (record { shelf = inr (stored_files name bytes files s v u was holds); input = told.input }) went)
-follows (Stores name bytes next) files left s o t told (inr (v, Err store_errors.Failed, was, went)) = inr (inl (objects.Shelf, went.0, failed_at objects.Shelf s (on_shelf s v) t went.1 was.gives.1 was.gives.2))
-follows (Stores name bytes next) files left s o t told (inr (v, Err store_errors.Memory, was, went)) = inl went.0
-follows (Prints text next) files left s o t told (inl out) = inl out.0
-follows (Prints text next) files left s o t told (inr (v, Ok u, was, went)) =
-    after files left files left text [] _ s (on_out s v) o t (out_step files left text s v was.later was.calm was.gives.0) (follows next files left (on_out s v) o t (record { shelf = told.shelf; input = told.input }) went)
-follows (Prints text next) files left s o t told (inr (v, Err sink_errors.Failed, was, went)) = inr (inl (objects.Output, went.0, failed_at objects.Output s (on_out s v) t went.1 was.gives.1 was.gives.2))
-follows (Prints text next) files left s o t told (inr (v, Err sink_errors.Memory, was, went)) = inl went.0
-follows (Reports text next) files left s o t told (inl out) = inl out.0
-follows (Reports text next) files left s o t told (inr (v, Ok u, was, went)) =
-    after files left files left [] text _ s (on_report s v) o t (report_step files left text s v (Ok u) was was.gives.0) (follows next files left (on_report s v) o t (record { shelf = told.shelf; input = told.input }) went)
-follows (Reports text next) files left s o t told (inr (v, Err sink_errors.Failed, was, went)) = inr (inl (objects.Report, went.0, failed_at objects.Report s (on_report s v) t went.1 was.gives.1 was.gives.2))
-follows (Reports text next) files left s o t told (inr (v, Err sink_errors.Memory, was, went)) = inl went.0
-follows (Reads most next) files left s o t told (inl out) = inl out.0
-follows (Reads most next) files left s o t told (inr (v, Ok bytes, was, went)) =
+    (follows next (put name (Some bytes) files) left (on_shelf s v) o t sparing (record { shelf = inr (stored_files name bytes files s v u was holds); input = told.input }) went)
+follows (Stores name bytes next) files left s o t sparing told (inr (v, Err store_errors.Failed, was, went)) = inr (inl (objects.Shelf, went.0, failed_at objects.Shelf s (on_shelf s v) t went.1 was.gives.1 was.gives.2))
+follows (Stores name bytes next) files left s o t sparing told (inr (v, Err store_errors.Memory, was, went)) = inl went.0
+follows (Prints text next) files left s o t sparing told (inl out) = inl out.0
+follows (Prints text next) files left s o t sparing told (inr (v, Ok u, was, went)) =
+    after files left files left text [] _ s (on_out s v) o t (out_step files left text s v was.later was.calm was.gives.0) (follows next files left (on_out s v) o t sparing (record { shelf = told.shelf; input = told.input }) went)
+follows (Prints text next) files left s o t sparing told (inr (v, Err sink_errors.Failed, was, went)) = inr (inl (objects.Output, went.0, failed_at objects.Output s (on_out s v) t went.1 was.gives.1 was.gives.2))
+follows (Prints text next) files left s o t sparing told (inr (v, Err sink_errors.Memory, was, went)) = inl went.0
+follows (Turns turn next) files left s o t sparing told (inl out) = inl out.0
+follows (Turns turn next) files left s o t sparing told (inr (left', tells, went)) =
     let has : s.input.bytes ≡ Some left = asked told.input (λ a. a) in
-    let here : (bytes ≡ take most left) × (v.bytes ≡ Some (drop most left)) = told_to s.input.bytes left (λ b. (bytes ≡ take most b) × (v.bytes ≡ Some (drop most b))) has was.gives.1 in
-    let P : List ℕ → Type 0 = λ bytes. Follows files left (expected (next bytes) files (drop most left)) s o t in
-    subst P here.0 (after files left files (drop most left) [] [] _ s (on_input s v) o t (input_step files left (drop most left) s v was.later was.calm (λ h. here.1))
-    (follows (next bytes) files (drop most left) (on_input s v) o t (record { shelf = either told.shelf (λ a. a bytes) (λ b. b); input = inr here.1 }) went))
-follows (Reads most next) files left s o t told (inr (v, Err ReadFailed, was, went)) = inr (inl (objects.Input, went.0, failed_at objects.Input s (on_input s v) t went.1 was.gives.1 was.gives.2))
-follows (Reads most next) files left s o t told (inr (v, Err ReadMemory, was, went)) = inl went.0
+    let same : left ≡ left' = told_to s.input.bytes left (λ b. b ≡ left') has tells in
+    let P : List ℕ → Type 0 = λ l. AfterTurn (turn l) l (Went (next l)) s o t in
+    turn_follows (turn left) (next left) files left s o t has (either told.shelf (λ a. a left) (λ b. b)) (sparing left).1
+    (λ m told went. follows (next left) files (turn left).left m o t (sparing left).0 told went) (subst P (sym same) went)

@@ -1,12 +1,13 @@
 -- What a plan comes to over objects that tell what they hold, where nothing fails, and what this says of a run.
-use Rattle.std.specs.Prelude.{◌≡◌, ◌⊎◌, ◌<◌, ◌≤◌, ◌-◌, ◌^◌, nat_le, ℕ, List, [], ◌++◌, length, take, drop, Option, Some, None, Result, Ok, Err, cond, IsTrue}
+use Rattle.std.specs.Prelude.{◌≡◌, ◌⊎◌, ◌<◌, ◌≤◌, ◌+◌, ◌-◌, ◌^◌, nat_le, ℕ, List, [], ◌++◌, length, drop, Option, Some, None, Result, Ok, Err, cond, IsTrue}
 use Rattle.std.specs.Option.{option_map}
 use Rattle.br_outside.specs.Files.{Files, put}
 use Rattle.br_outside.specs.Outside.{Rose}
 use Rattle.binrec.specs.Plans.World.{World, faults_of, calm_of}
-use Rattle.binrec.specs.Plans.Plan.{Plan, Ends, Fetches, Stores, Prints, Reports, Reads, planned_end}
-use Rattle.binrec.specs.Plans.Texts.{End, end_text, end_status, object_text}
+use Rattle.binrec.specs.Plans.Plan.{Plan, Ends, Fetches, Stores, Prints, Turned, Turns, planned_end}
+use Rattle.binrec.specs.Plans.Texts.{Finished, End, end_text, end_status, object_text}
 use Rattle.binrec.specs.declared.acts.stop.Stop.TheVariants.{Because, Outside, Memory}
+use Rattle.binrec.specs.declared.acts.stop.Cause.{Cause}
 use Rattle.binrec.specs.declared.acts.stop.Cause.TheVariants.{Limited}
 use Rattle.binrec.specs.declared.acts.stop.Limit.TheVariants as limits
 use Rattle.binrec.specs.declared.acts.stop.Object.{Object}
@@ -17,11 +18,13 @@ pub record Ending : Type 0 where
   pub end : End
   pub files : Files
   pub left : List ℕ
+  -- how many more bytes of the input may be taken, at most
+  pub spare : ℕ
   pub printed : List ℕ
   pub reported : List ℕ
 
 abbrev pub ends_with : End → Files → List ℕ → Ending
-ends_with end files left = record { end = end; files = files; left = left; printed = []; reported = [] }
+ends_with end files left = record { end = end; files = files; left = left; spare = 0; printed = []; reported = [] }
 
 abbrev pub after_fetch : ℕ → (List ℕ → Ending) → Files → List ℕ → Option (List ℕ) → Ending
 after_fetch limit next files left None = ends_with (Err (Outside objects.Shelf)) files left
@@ -30,8 +33,8 @@ after_fetch limit next files left (Some bytes) = cond (nat_le (length bytes) lim
 abbrev pub printed_before : List ℕ → Ending → Ending
 printed_before text e = record e { printed = text ++ e.printed }
 
-abbrev pub reported_before : List ℕ → Ending → Ending
-reported_before text e = record e { reported = text ++ e.reported }
+abbrev pub turned_before : Turned → Ending → Ending
+turned_before d e = record e { spare = d.spare + e.spare; printed = d.printed ++ e.printed; reported = d.reported ++ e.reported }
 
 -- what the plan comes to over these files, with this input left
 unfoldable pub expected : Plan → Files → List ℕ → Ending
@@ -39,8 +42,7 @@ expected (Ends end) files left = ends_with (planned_end end) files left
 expected (Fetches name limit next) files left = after_fetch limit (λ bytes. expected (next bytes) files left) files left (files name)
 expected (Stores name bytes next) files left = expected next (put name (Some bytes) files) left
 expected (Prints text next) files left = printed_before text (expected next files left)
-expected (Reports text next) files left = reported_before text (expected next files left)
-expected (Reads most next) files left = expected (next (take most left)) files (drop most left)
+expected (Turns turn next) files left = turned_before (turn left) (expected (next left) files (turn left).left)
 
 -- the plan asks nothing of the shelf
 unfoldable pub NoFiles : Plan → Type 0
@@ -48,8 +50,7 @@ NoFiles (Ends end) = Unit {0}
 NoFiles (Fetches name limit next) = ⊥
 NoFiles (Stores name bytes next) = ⊥
 NoFiles (Prints text next) = NoFiles next
-NoFiles (Reports text next) = NoFiles next
-NoFiles (Reads most next) = (bytes : List ℕ) → NoFiles (next bytes)
+NoFiles (Turns turn next) = (left : List ℕ) → NoFiles (next left)
 
 -- the plan asks nothing of the input
 unfoldable pub NoInput : Plan → Type 0
@@ -57,8 +58,15 @@ NoInput (Ends end) = Unit {0}
 NoInput (Fetches name limit next) = (bytes : List ℕ) → NoInput (next bytes)
 NoInput (Stores name bytes next) = NoInput next
 NoInput (Prints text next) = NoInput next
-NoInput (Reports text next) = NoInput next
-NoInput (Reads most next) = ⊥
+NoInput (Turns turn next) = ⊥
+
+-- a turn after which more of the input may be taken than it uses is the last one
+unfoldable pub IsSparing : Plan → Type 0
+IsSparing (Ends end) = Unit {0}
+IsSparing (Fetches name limit next) = (bytes : List ℕ) → IsSparing (next bytes)
+IsSparing (Stores name bytes next) = IsSparing next
+IsSparing (Prints text next) = IsSparing next
+IsSparing (Turns turn next) = (left : List ℕ) → IsSparing (next left) × (((turn left).spare ≡ 0) ⊎ ((end : Result Finished Cause) × (next left ≡ Ends end)))
 
 -- The objects that the plan asks tell these contents.
 pub record IsTold (plan : Plan) (files : Files) (left : List ℕ) (s : World) : Type 0 where
@@ -70,11 +78,15 @@ pub record HasFailed (x : Object) (s t : World) : Type 0 where
   pub rose : Rose (faults_of x s) (faults_of x t)
   pub loud : IsTrue (calm_of x s) → ⊥
 
+-- what is left of the input, but that some bytes more may be taken
+abbrev pub LeavesBut : ℕ → List ℕ → Option (List ℕ) → Type 0
+LeavesBut spare left bytes = (more : ℕ) × (more ≤ spare) × (bytes ≡ Some (drop more left))
+
 -- The whole call did as expected: the status, the files, the input, the output and the report.
 pub record IsWhole (files : Files) (left : List ℕ) (e : Ending) (s : World) (result : ℕ) (t : World) : Type 0 where
   pub status : result ≡ end_status e.end
   pub shelf : s.shelf.files ≡ Some files → t.shelf.files ≡ Some e.files
-  pub input : s.input.bytes ≡ Some left → t.input.bytes ≡ Some e.left
+  pub input : s.input.bytes ≡ Some left → LeavesBut e.spare e.left t.input.bytes
   pub out : t.out.bytes ≡ option_map (λ written. written ++ e.printed) s.out.bytes
   pub report : t.report.bytes ≡ option_map (λ written. written ++ (e.reported ++ end_text e.end)) s.report.bytes
   pub rose : e.end ≡ Err (Outside objects.Shelf) → Rose s.shelf.faults t.shelf.faults

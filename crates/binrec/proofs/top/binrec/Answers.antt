@@ -6,15 +6,15 @@ use Rattle.binrec.proofs.top.binrec.Goals as goal
 pub returns-in-Ok : goal.returns-in-Ok
 returns-in-Ok g c =
     let s = world (g.F.Shelf.seen c.args.shelf.now) (g.I.Source.seen c.args.input.now) (g.O.Sink.seen c.args.out.now) (g.R.Sink.seen c.args.report.now) in
-    let m = world (g.F.Shelf.seen c.work.new.shelf) (g.I.Source.seen c.args.input.now) (g.O.Sink.seen c.args.out.now) (g.R.Sink.seen c.args.report.now) in
-    let t = world (g.F.Shelf.seen c.work.new.shelf) (g.I.Source.seen c.args.input.now) (g.O.Sink.seen c.args.out.now) (g.R.Sink.seen c.tell.new.report) in
-    let a = all_of (map string_bytes c.args.words.now) s c.tell.result t c.image_law.ensures (_, m, c.in-Ok.ensures s, inr (_, rw (c.as_bytes.ensures.value, c.status.ensures) at c.tell.ensures, refl)) in
-    record { happened = a.happened; exact = a.exact; complete = a.complete; cause = a.cause; usage = a.usage; build = a.build }
+    let m = world (g.F.Shelf.seen c.work.new.shelf) (g.I.Source.seen c.work.new.input) (g.O.Sink.seen c.work.new.out) (g.R.Sink.seen c.work.new.report) in
+    let t = world (g.F.Shelf.seen c.work.new.shelf) (g.I.Source.seen c.work.new.input) (g.O.Sink.seen c.work.new.out) (g.R.Sink.seen c.tell.new.report) in
+    let a = all_of (map string_bytes c.args.words.now) s c.tell.result t c.image_law.ensures (_, m, c.in-Ok.ensures, inr (_, rw (c.as_bytes.ensures.value, c.status.ensures) at c.tell.ensures, refl)) in
+    record { happened = a.happened; exact = a.exact; complete = a.complete; cause = a.cause; usage = a.usage; run = a.run; build = a.build }
 
 pub returns-in-Err : goal.returns-in-Err
 returns-in-Err g c =
     let s = world (g.F.Shelf.seen c.args.shelf.now) (g.I.Source.seen c.args.input.now) (g.O.Sink.seen c.args.out.now) (g.R.Sink.seen c.args.report.now) in
-    let m = world (g.F.Shelf.seen c.work.new.shelf) (g.I.Source.seen c.args.input.now) (g.O.Sink.seen c.args.out.now) (g.R.Sink.seen c.args.report.now) in
-    let t = world (g.F.Shelf.seen c.work.new.shelf) (g.I.Source.seen c.args.input.now) (g.O.Sink.seen c.args.out.now) (g.R.Sink.seen c.tell_stop.new.report) in
-    let a = all_of (map string_bytes c.args.words.now) s c.tell_stop.result t c.image_law.ensures (reported_stop _ _ m c.in-Err.stop _ _ (c.in-Err.ensures s) c.tell_stop.ensures) in
-    record { happened = a.happened; exact = a.exact; complete = a.complete; cause = a.cause; usage = a.usage; build = a.build }
+    let m = world (g.F.Shelf.seen c.work.new.shelf) (g.I.Source.seen c.work.new.input) (g.O.Sink.seen c.work.new.out) (g.R.Sink.seen c.work.new.report) in
+    let t = world (g.F.Shelf.seen c.work.new.shelf) (g.I.Source.seen c.work.new.input) (g.O.Sink.seen c.work.new.out) (g.R.Sink.seen c.tell_stop.new.report) in
+    let a = all_of (map string_bytes c.args.words.now) s c.tell_stop.result t c.image_law.ensures (reported_stop _ _ m c.in-Err.stop _ _ c.in-Err.ensures c.tell_stop.ensures) in
+    record { happened = a.happened; exact = a.exact; complete = a.complete; cause = a.cause; usage = a.usage; run = a.run; build = a.build }

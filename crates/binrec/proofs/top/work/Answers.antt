@@ -1,7 +1,25 @@
-use Rattle.std.proofs.Common.{map, string_bytes}
-use Rattle.binrec.specs.Plans.World.{on_shelf}
-use Rattle.binrec.proofs.Tops.{no_command}
+use Rattle.std.proofs.Common.{map, string_bytes, Ok, ap, ◌∙◌, subst}
+use Rattle.word_reader.specs.Reads.{asked_of}
+use Rattle.word_reader.specs.Words.{Builds, Runs}
+use Rattle.binrec.specs.Plans.World.{world}
+use Rattle.binrec.proofs.Tops.{no_command, asked_for, run_for}
+use Rattle.binrec.proofs.Fitting.{asked_fits}
 use Rattle.binrec.proofs.top.work.Goals as goal
 
+pub run_command-requires-clause-fit : goal.run_command-requires-clause-fit
+run_command-requires-clause-fit g c = (asked_fits (map string_bytes c.args.words.now) c.in-Ok-Run.steps c.in-Ok-Run.e.now (map string_bytes c.in-Ok-Run.args.now) (c.in-Ok-Run.ensures ∙ ap (λ x. Ok (asked_of x)) c.in-Ok-Run.field-0-is)).fit
+
+pub run_command-requires-clause-few : goal.run_command-requires-clause-few
+run_command-requires-clause-few g c = (asked_fits (map string_bytes c.args.words.now) c.in-Ok-Run.steps c.in-Ok-Run.e.now (map string_bytes c.in-Ok-Run.args.now) (c.in-Ok-Run.ensures ∙ ap (λ x. Ok (asked_of x)) c.in-Ok-Run.field-0-is)).few
+
+pub returns-in-Ok-Build : goal.returns-in-Ok-Build
+returns-in-Ok-Build g c =
+    let s = world (g.F.Shelf.seen c.args.shelf.now) (g.I.Source.seen c.args.input.now) (g.O.Sink.seen c.args.out.now) (g.R.Sink.seen c.args.report.now) in
+    asked_for (map string_bytes c.args.words.now) (Builds c.in-Ok-Build.n.now c.in-Ok-Build.e.now _) _ _ _ (c.in-Ok-Build.ensures ∙ ap (λ x. Ok (asked_of x)) c.in-Ok-Build.field-0-is) (c.build_command.ensures s)
+
+pub returns-in-Ok-Run : goal.returns-in-Ok-Run
+returns-in-Ok-Run g c =
+    run_for (map string_bytes c.args.words.now) c.in-Ok-Run.steps c.in-Ok-Run.e.now (map string_bytes c.in-Ok-Run.args.now) c.word_of_guest-word.result _ _ _ (c.in-Ok-Run.ensures ∙ ap (λ x. Ok (asked_of x)) c.in-Ok-Run.field-0-is) c.word_of_guest-word.ensures c.run_command.ensures
+
 pub returns-in-Err : goal.returns-in-Err
-returns-in-Err g c w = no_command (map string_bytes c.args.words.now) c.in-Err.at (on_shelf w (g.F.Shelf.seen c.args.shelf.now)) c.in-Err.ensures
+returns-in-Err g c = no_command (map string_bytes c.args.words.now) c.in-Err.at _ c.in-Err.ensures

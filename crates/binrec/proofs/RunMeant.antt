@@ -1,0 +1,92 @@
+-- What `run` answers means what it is to mean.
+use Rattle.std.proofs.Common.{◌≡◌, ◌⊎◌, ◌<◌, ◌≤◌, ◌+◌, ℕ, nat_le, List, [], ◌++◌, length, drop, Option, Some, None, Result, Ok, Err, cond, refl, sym, ◌∙◌, ap, subst, inl, inr, arith}
+use Rattle.std.specs.Option.{option_map}
+use Rattle.std.proofs.lemmas.Bool.{le-leb, lt-leb, cond-true, cond-false}
+use Rattle.br_word.specs.State.{State, Stop, Running, Exited, Faulted}
+use Rattle.br_outside.specs.Files.{Files}
+use Rattle.elf_read.specs.Elf.{elf, Refused}
+use Rattle.elf_read.specs.declared.exe.Exe.{Exe}
+use Rattle.elf_read.specs.declared.exe.Reach.TheVariants.{Guest}
+use Rattle.guest_run.specs.Opening.{opening, arguments}
+use Rattle.guest_run.specs.Run.{run}
+use Rattle.guest_run.specs.Guest.{beginning, ahead, while_running, steps_taken, undefined_taken}
+use Rattle.word_reader.specs.Words.{Asked, Runs}
+use Rattle.binrec.specs.Words.{asked_by, word_of_guest}
+use Rattle.binrec.specs.Plans.World.{World}
+use Rattle.binrec.specs.Plans.Texts.{End, end_text, end_status, stop_text, stop_status}
+use Rattle.binrec.specs.Plans.Plan.{Plan}
+use Rattle.binrec.specs.Plans.Parts.{checked}
+use Rattle.binrec.specs.Plans.Told.{Ending, ends_with, after_fetch, expected, LeavesBut, HasFailed, IsWhole, Decided, IsExact}
+use Rattle.binrec.specs.Guests.{guest_plan, finished}
+use Rattle.binrec.specs.Commands.{of_word, run_plan, of_command, plan}
+use Rattle.binrec.specs.Meaning.{HasRun, OnlySays, RunsRead, RunsContent, MeansRun}
+use Rattle.binrec.specs.declared.acts.stop.Stop.{Stop as Why}
+use Rattle.binrec.specs.declared.acts.stop.Stop.TheVariants.{Because, Outside}
+use Rattle.binrec.specs.declared.acts.stop.Cause.TheVariants.{RefusedWord, Limited}
+use Rattle.binrec.specs.declared.acts.stop.Object.{Object}
+use Rattle.binrec.specs.declared.acts.stop.Object.TheVariants as objects
+use Rattle.binrec.specs.declared.acts.stop.Limit.TheVariants as limits
+use Rattle.binrec.proofs.Plans.Steps.{nothing}
+use Rattle.binrec.proofs.Ending.{EndsAs, IsBare, ends_as}
+
+-- the work ended before the guest was beginning
+only_says : (stop : Why) (files : Files) (left : List ℕ) (s : World) (result : ℕ) (t : World) → s.shelf.files ≡ Some files → s.input.bytes ≡ Some left
+    → IsWhole files left (ends_with (Err stop) files left) s result t → OnlySays (stop_status stop) (stop_text stop) s result t
+only_says stop files left s result t told has w = record {
+  status = w.status;
+  report = w.report;
+  shelf = w.shelf told ∙ sym told;
+  input = (let h : LeavesBut 0 left t.input.bytes = w.input has in let none : h.0 ≡ 0 = omega (arith, h.1) in h.2 ∙ (ap (λ n. Some (drop n left)) none ∙ sym has));
+  out = w.out ∙ sym (nothing s.out.bytes);
+}
+
+while_le : (x : Stop) (k : ℕ) → while_running x k 0 ≤ k
+while_le Running k = omega arith
+while_le (Exited n) k = omega arith
+while_le (Faulted f) k = omega arith
+
+-- the guest ran
+has_run : (n : ℕ) (exe : Exe) (args : List (List ℕ)) (files : Files) (left : List ℕ) (e : Ending) (s : World) (result : ℕ) (t : World) → s.shelf.files ≡ Some files → s.input.bytes ≡ Some left
+    → EndsAs n (beginning exe args) (opening exe (arguments args) left) files e → IsWhole files left e s result t → HasRun n (opening exe (arguments args) left) s result t
+has_run n exe args files left e s result t told has h w =
+    let start = opening exe (arguments args) left in
+    let u = run n start [] in
+    let zero_steps : 0 + steps_taken n start ≡ steps_taken n start = omega arith in
+    let zero_undefined : 0 + undefined_taken n start ≡ undefined_taken n start = omega arith in
+    let end : e.end ≡ Ok (finished u.stop (steps_taken n start) (undefined_taken n start)) = h.end ∙ (ap (λ m. Ok (finished u.stop m (0 + undefined_taken n start))) zero_steps ∙ ap (λ m. Ok (finished u.stop (steps_taken n start) m)) zero_undefined) in
+    let i = w.input has in
+    record {
+      status = w.status ∙ ap end_status end;
+      out = w.out ∙ ap (λ x. option_map (λ written. written ++ x) s.out.bytes) h.printed;
+      report = w.report ∙ ap (λ x. option_map (λ written. written ++ x) s.report.bytes) (ap (λ x. x ++ end_text e.end) h.reported ∙ ap (λ o. u.err ++ end_text o) end);
+      input = (i.0, (let k = while_le start.stop (ahead u) in omega (arith, i.1, h.spare_as, k)), i.2 ∙ ap (λ l. Some (drop i.0 l)) h.left);
+      shelf = w.shelf told ∙ (ap Some h.files_as ∙ sym told);
+    }
+
+read : (n : ℕ) (args : List (List ℕ)) (word : ℕ) (files : Files) (left : List ℕ) (s : World) (result : ℕ) (t : World) → s.shelf.files ≡ Some files → s.input.bytes ≡ Some left
+    → (r : Result Exe Refused) → IsWhole files left (expected (checked (of_word word r) (λ exe. guest_plan n (beginning exe args))) files left) s result t → RunsRead n args word left r s result t
+unfolding expected
+read n args word files left s result t told has (Ok exe) w = has_run n exe args files left _ s result t told has (ends_as n (beginning exe args) files left (record { out = refl; err = refl })) w
+read n args word files left s result t told has (Err refused) w = only_says (Because (RefusedWord word refused.number refused.place)) files left s result t told has w
+
+fetched : (n : ℕ) (args : List (List ℕ)) (word : ℕ) (files : Files) (left : List ℕ) (s : World) (result : ℕ) (t : World) → s.shelf.files ≡ Some files → s.input.bytes ≡ Some left
+    → (c : Option (List ℕ)) → IsWhole files left (after_fetch 268435456 (λ bytes. expected (checked (of_word word (elf Guest bytes)) (λ exe. guest_plan n (beginning exe args))) files left) files left c) s result t
+    → RunsContent n args word left c s result t
+fetched n args word files left s result t told has None w = only_says (Outside objects.Shelf) files left s result t told has w
+fetched n args word files left s result t told has (Some content) w =
+    let P : Ending → Type 0 = λ e. IsWhole files left e s result t in
+    (λ short. read n args word files left s result t told has (elf Guest content) (subst P (cond-true (nat_le (length content) 268435456) _ _ (le-leb (length content) 268435456 short)) w),
+    λ long. only_says (Because (Limited (limits.File 268435456))) files left s result t told has (subst P (cond-false (nat_le (length content) 268435456) _ _ (lt-leb (length content) 268435456 long)) w))
+
+decided : (n : ℕ) (name : List ℕ) (args : List (List ℕ)) (word : ℕ) (files : Files) (left : List ℕ) (s : World) (result : ℕ) (t : World) → s.shelf.files ≡ Some files → s.input.bytes ≡ Some left
+    → Decided files left (expected (run_plan n name args word) files left) s result t → (result ≡ 4) ⊎ (((result ≡ 3) × (x : Object) × HasFailed x s t) ⊎ RunsContent n args word left (files name) s result t)
+unfolding expected
+decided n name args word files left s result t told has (inl four) = inl four
+decided n name args word files left s result t told has (inr (inl failed)) = inr (inl failed)
+decided n name args word files left s result t told has (inr (inr w)) = inr (inr (fetched n args word files left s result t told has (files name) w))
+
+pub means_run : (words : List (List ℕ)) (n : ℕ) (name : List ℕ) (args : List (List ℕ)) (s : World) (result : ℕ) (t : World) → IsExact (plan words) s result t → asked_by words ≡ Ok (Runs n name args)
+    → MeansRun n name args (word_of_guest words) s result t
+means_run words n name args s result t exact asked files left told has =
+    let P : Result Asked ℕ → Type 0 = λ r. IsExact (of_command r (word_of_guest words)) s result t in
+    decided n name args (word_of_guest words) files left s result t told has (subst P asked exact files left (record { shelf = inr told; input = inr has }))

@@ -1,0 +1,139 @@
+-- A guest's steps as turns of its plan.
+use Rattle.std.proofs.Common.{◌≡◌, ◌⊎◌, ◌<◌, ◌≤◌, ◌+◌, ℕ, zero, suc, Bool, true, false, IsTrue, List, [], Option, Some, None, IfSome, Result, Ok, Err, refl, sym, ◌∙◌, ap, subst, inl, inr, arith}
+use Rattle.br_outside.specs.Outside.{ShelfView, StreamView}
+use Rattle.br_word.specs.State.{State, Stop, Running, Exited, Faulted}
+use Rattle.ia_inst.specs.Step.{step}
+use Rattle.guest_sys.specs.Streams.{Streams, Tells}
+use Rattle.guest_sys.specs.Machine.{fed}
+use Rattle.guest_sys.specs.Calls.{asks}
+use Rattle.guest_sys.specs.declared.answers.SysError.{SysError}
+use Rattle.guest_sys.specs.declared.answers.SysError.TheVariants as sys
+use Rattle.guest_run.specs.declared.stop.Stop as answer
+use Rattle.guest_run.specs.Guest.{GuestView, StepDone, StepFailed, NoStep, Steps, streams, stepped, stop_of, answer_of, while_running, asks_by, asks_next, traps}
+use Rattle.binrec.specs.Plans.World.{World, world}
+use Rattle.binrec.specs.Plans.Texts.{Finished, End}
+use Rattle.binrec.specs.Plans.Plan.{Plan, Ends, Turns, Turned, Went, IsTurned, AfterTurn, GoesOn, FailsInput, FailsOutput, FailsReport, WantsMemory}
+use Rattle.binrec.specs.Guests.{last_line, finish_of, finished, next_guest, next_turn, stands, guest_plan, stop_of_error}
+use Rattle.binrec.specs.declared.acts.stop.Finish.{Finish}
+
+-- ---- how a guest stands
+
+same_stop : (s : Stop) → stop_of (answer_of s) ≡ s
+same_stop Running = refl
+same_stop (Exited n) = refl
+same_stop (Faulted f) = refl
+
+pub stood : (g : GuestView) (a : answer.Stop) (f : Finish) (line : List ℕ) (n u : ℕ) (w : World) → a ≡ answer_of g.state.stop → n ≡ g.steps → u ≡ g.undefined
+    → f ≡ finish_of (stop_of a) → line ≡ last_line (stop_of a) n u → Went (stands g) w (Ok (record { finish = f; line = line })) w
+unfolding Went
+stood g a f line n u w is steps undefined finish text =
+    let s : stop_of a ≡ g.state.stop = ap stop_of is ∙ same_stop g.state.stop in
+    let f' : f ≡ finish_of g.state.stop = finish ∙ ap finish_of s in
+    let l' : line ≡ last_line g.state.stop g.steps g.undefined = text ∙ (ap (λ s. last_line s n u) s ∙ (ap (λ n. last_line g.state.stop n u) steps ∙ ap (λ u. last_line g.state.stop g.steps u) undefined)) in
+    let P : Finish → Type 0 = λ f'. (let o : End = Ok (record { finish = f; line = line }) in o) ≡ Ok (record { finish = f'; line = last_line g.state.stop g.steps g.undefined }) in
+    inr (subst P f' (ap (λ l. Ok (record { finish = f; line = l })) l'), refl)
+
+-- ---- what a plan of steps comes to
+
+-- a guest that runs takes a turn
+pub runs : (n : ℕ) (g : GuestView) → g.state.stop ≡ Running → guest_plan (suc n) g ≡ Turns (next_turn g) (λ left. guest_plan n (next_guest g left))
+unfolding guest_plan
+runs n g is = ap (λ s. while_running s (Turns (next_turn g) (λ left. guest_plan n (next_guest g left))) (stands g)) is
+
+stopped_plan : (s : Stop) (a b : Plan) → (s ≡ Running → ⊥) → while_running s a b ≡ b
+stopped_plan Running a b not = absurd (not refl)
+stopped_plan (Exited n) a b not = refl
+stopped_plan (Faulted f) a b not = refl
+
+pub none_left : (g : GuestView) → guest_plan 0 g ≡ stands g
+unfolding guest_plan
+none_left g = refl
+
+pub has_stopped : (n : ℕ) (g : GuestView) → (g.state.stop ≡ Running → ⊥) → guest_plan n g ≡ stands g
+unfolding guest_plan
+has_stopped zero g not = refl
+has_stopped (suc n) g not = stopped_plan g.state.stop _ _ not
+
+-- a run of another plan that is the same
+same_plan : (p q : Plan) (s : World) (o : End) (u : World) → p ≡ q → Went q s o u → Went p s o u
+same_plan p q s o u is went = let P : Plan → Type 0 = λ p. Went p s o u in subst P (sym is) went
+
+turns : (n : ℕ) (g : GuestView) (left : List ℕ) (s : World) (o : End) (u : World) → g.state.stop ≡ Running → Tells left s.input
+    → AfterTurn (next_turn g left) left (Went (guest_plan n (next_guest g left))) s o u → Went (guest_plan (suc n) g) s o u
+unfolding Went
+turns n g left s o u running told after = same_plan (guest_plan (suc n) g) _ s o u (runs n g running) (inr (left, told, after))
+
+-- a step was taken
+step_on : (n : ℕ) (g h : GuestView) (v : ShelfView) (i o e i' o' e' : StreamView) (end : End) (u : World) → Steps (Ok true) 0 g h (streams i o e) (streams i' o' e')
+    → Went (guest_plan n h) (world v i' o' e') end u → Went (guest_plan (suc n) g) (world v i o e) end u
+step_on n g h v i o e i' o' e' end u a went =
+    let d : StepDone (fed a.left g.state) 0 g h (streams i o e) (streams i' o' e') = a.gives in
+    let P : GuestView → Type 0 = λ h. Went (guest_plan n h) (world v i' o' e') end u in
+    turns n g a.left (world v i o e) end u d.running a.told
+    (GoesOn (world v i' o' e') (record { shelf = refl; more = d.more; few = d.few; input = d.streams.input; idle = d.idle; out = d.streams.out; report = d.streams.err }) (subst P d.guest went))
+
+pub steps_on : (k n : ℕ) (g h : GuestView) (v : ShelfView) (i o e i' o' e' : StreamView) (end : End) (u : World) (b : Bool) → Steps (Ok b) 0 g h (streams i o e) (streams i' o' e') → b ≡ true → k ≡ suc n
+    → Went (guest_plan n h) (world v i' o' e') end u → Went (guest_plan k g) (world v i o e) end u
+steps_on k n g h v i o e i' o' e' end u b a taken more went =
+    let P : Bool → Type 0 = λ b. Steps (Ok b) 0 g h (streams i o e) (streams i' o' e') in
+    let Q : ℕ → Type 0 = λ k. Went (guest_plan k g) (world v i o e) end u in
+    subst Q (sym more) (step_on n g h v i o e i' o' e' end u (subst P taken a) went)
+
+-- no step was taken
+pub stays : (n : ℕ) (g h : GuestView) (v : ShelfView) (i o e i' o' e' : StreamView) (end : End) (u : World) (b : Bool) → Steps (Ok b) 0 g h (streams i o e) (streams i' o' e') → b ≡ false
+    → Went (stands h) (world v i' o' e') end u → Went (guest_plan n g) (world v i o e) end u
+stays n g h v i o e i' o' e' end u b a none went =
+    let R : Bool → Type 0 = λ b. Steps (Ok b) 0 g h (streams i o e) (streams i' o' e') in
+    let a' : Steps (Ok false) 0 g h (streams i o e) (streams i' o' e') = subst R none a in
+    let d : NoStep (fed a'.left g.state) g h (streams i o e) (streams i' o' e') = a'.gives in
+    let P : GuestView → Type 0 = λ h. Went (stands h) (world v i' o' e') end u in
+    let Q : Streams → Type 0 = λ z. Went (stands g) (world v z.input z.out z.err) end u in
+    same_plan (guest_plan n g) (stands g) (world v i o e) end u (has_stopped n g d.stopped) (subst Q d.streams (subst P d.guest went))
+
+-- what a call asks that is one
+asked_all : (b : Bool) (s : State) → IsTrue b → asks s ≡ asks_by b s
+asked_all true s is = refl
+asked_all false s is = let h : false ≡ true = is in cc
+
+-- a step failed
+step_fails : (n : ℕ) (g h : GuestView) (v : ShelfView) (i o e i' o' e' : StreamView) (error : SysError) → Steps (Err error) 0 g h (streams i o e) (streams i' o' e')
+    → Went (guest_plan (suc n) g) (world v i o e) (Err (stop_of_error error)) (world v i' o' e')
+step_fails n g h v i o e i' o' e' sys.Input a =
+    let d : StepFailed sys.Input (fed a.left g.state) 0 g h (streams i o e) (streams i' o' e') = a.gives in
+    let few : asks (fed a.left g.state) ≡ asks_next (fed a.left g.state) = asked_all (traps (fed a.left g.state)) (fed a.left g.state) d.trap in
+    let z = d.streams in
+    turns n g a.left (world v i o e) _ _ d.running a.told (FailsInput (record { ends = refl; taken = z.taken; few = (let P : ℕ → Type 0 = λ k. z.taken < k in subst P few z.few); rest = z.left; fails = z.fails; shelf = refl; out = z.out; report = z.err }))
+step_fails n g h v i o e i' o' e' sys.Out a =
+    let d : StepFailed sys.Out (fed a.left g.state) 0 g h (streams i o e) (streams i' o' e') = a.gives in
+    let z = d.streams in
+    turns n g a.left (world v i o e) _ _ d.running a.told (FailsOutput (record { ends = refl; written = z.0.written; given = z.0.given; some = z.0.some; fails = z.0.fails; shelf = refl; input = z.1; report = z.2 }))
+step_fails n g h v i o e i' o' e' sys.Report a =
+    let d : StepFailed sys.Report (fed a.left g.state) 0 g h (streams i o e) (streams i' o' e') = a.gives in
+    let z = d.streams in
+    turns n g a.left (world v i o e) _ _ d.running a.told (FailsReport (record { ends = refl; written = z.0.written; given = z.0.given; some = z.0.some; fails = z.0.fails; shelf = refl; input = z.1; out = z.2 }))
+step_fails n g h v i o e i' o' e' sys.Memory a =
+    let d : StepFailed sys.Memory (fed a.left g.state) 0 g h (streams i o e) (streams i' o' e') = a.gives in
+    let few : asks (fed a.left g.state) ≡ asks_next (fed a.left g.state) = asked_all (traps (fed a.left g.state)) (fed a.left g.state) d.trap in
+    let z = d.streams in
+    turns n g a.left (world v i o e) _ _ d.running a.told (WantsMemory (record { ends = refl; taken = z.taken; few = (let P : ℕ → Type 0 = λ k. z.taken ≤ k in subst P few z.few); input = z.input; shelf = refl; out = z.out.bytes; report = z.err.bytes; out_steady = z.out.steady; report_steady = z.err.steady }))
+
+pub fails : (k n : ℕ) (g h : GuestView) (v : ShelfView) (i o e i' o' e' : StreamView) (error : SysError) → Steps (Err error) 0 g h (streams i o e) (streams i' o' e') → k ≡ suc n
+    → Went (guest_plan k g) (world v i o e) (Err (stop_of_error error)) (world v i' o' e')
+fails k n g h v i o e i' o' e' error a more =
+    let Q : ℕ → Type 0 = λ k. Went (guest_plan k g) (world v i o e) (Err (stop_of_error error)) (world v i' o' e') in
+    subst Q (sym more) (step_fails n g h v i o e i' o' e' error a)
+
+-- the steps before a guest that takes none any more
+pub before : (n k : ℕ) (g : GuestView) (s : World) (o : End) (u : World) → k ≡ n → Went (guest_plan n g) s o u → Went (guest_plan k g) s o u
+before n k g s o u is went = let P : ℕ → Type 0 = λ k. Went (guest_plan k g) s o u in subst P (sym is) went
+
+pub at_last : (k : ℕ) (g : GuestView) (s : World) (o : End) (u : World) → k ≡ 0 → Went (stands g) s o u → Went (guest_plan k g) s o u
+at_last k g s o u is went = before 0 k g s o u is (same_plan (guest_plan 0 g) (stands g) s o u (none_left g) went)
+
+-- a guest that took a step
+pub took_step : (g h : GuestView) (before after : Streams) (b : Bool) → Steps (Ok b) 0 g h before after → b ≡ true → (h.live ≡ true) × (h.steps ≡ g.steps + 1)
+took_step g h before after b a taken =
+    let P : Bool → Type 0 = λ b. Steps (Ok b) 0 g h before after in
+    let a' : Steps (Ok true) 0 g h before after = subst P taken a in
+    let d : StepDone (fed a'.left g.state) 0 g h before after = a'.gives in
+    (ap (λ h. h.live) d.guest, ap (λ h. h.steps) d.guest)

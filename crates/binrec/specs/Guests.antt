@@ -1,0 +1,87 @@
+-- A guest's run as turns, and its last line.
+use Rattle.std.specs.Prelude.{ℕ, zero, suc, ◌-◌, Bool, false, List, ◌++◌, length, codes, replicate, Ok, Err, Result}
+use Rattle.std.specs.Fmt.{decimal, digits}
+use Rattle.br_word.specs.declared.types.GuestFault.{GuestFault}
+use Rattle.br_word.specs.declared.types.GuestFault.TheVariants.{Access, Illegal, Divide}
+use Rattle.br_word.specs.State.{State, Stop, Running, Exited, Faulted}
+use Rattle.ia_inst.specs.Step.{step}
+use Rattle.guest_sys.specs.Machine.{fed}
+use Rattle.guest_sys.specs.declared.answers.SysError.{SysError}
+use Rattle.guest_sys.specs.declared.answers.SysError.TheVariants as sys
+use Rattle.guest_run.specs.Guest.{GuestView, stepped, asks_next, ahead, while_running}
+use Rattle.binrec.specs.Plans.World.{World}
+use Rattle.binrec.specs.Plans.Texts.{Finished, End}
+use Rattle.binrec.specs.Plans.Plan.{Plan, Ends, Turns, Turned, Went}
+use Rattle.binrec.specs.declared.acts.stop.Finish.{Finish}
+use Rattle.binrec.specs.declared.acts.stop.Finish.TheVariants as finishes
+use Rattle.binrec.specs.declared.acts.stop.Object.TheVariants as objects
+use Rattle.binrec.specs.declared.acts.stop.Stop as work
+use Rattle.binrec.specs.declared.acts.stop.Stop.TheVariants.{Outside, Memory}
+
+-- ---- the last line
+
+-- eight hexadecimal digits
+abbrev pub address_text : ℕ → List ℕ
+address_text at = replicate (8 - length (digits 16 false at)) 48 ++ digits 16 false at
+
+abbrev pub counts_text : ℕ → ℕ → List ℕ
+counts_text steps undefined = codes " steps " ++ (decimal steps ++ (codes " undefined " ++ (decimal undefined ++ codes "\n")))
+
+abbrev pub fault_kind : GuestFault → List ℕ
+fault_kind (Access at) = codes "access"
+fault_kind (Illegal at) = codes "illegal"
+fault_kind (Divide at) = codes "divide"
+
+abbrev pub fault_address : GuestFault → ℕ
+fault_address (Access at) = at
+fault_address (Illegal at) = at
+fault_address (Divide at) = at
+
+-- how a guest stands, the steps that it took, and how many of them read an undefined flag
+abbrev pub last_line : Stop → ℕ → ℕ → List ℕ
+last_line Running steps undefined = codes "budget" ++ counts_text steps undefined
+last_line (Exited status) steps undefined = codes "exit " ++ (decimal status ++ counts_text steps undefined)
+last_line (Faulted fault) steps undefined = codes "fault " ++ (fault_kind fault ++ (codes " " ++ (address_text (fault_address fault) ++ counts_text steps undefined)))
+
+abbrev pub finish_of : Stop → Finish
+finish_of Running = finishes.Budget
+finish_of (Exited status) = finishes.Done
+finish_of (Faulted fault) = finishes.Fault
+
+abbrev pub finished : Stop → ℕ → ℕ → Finished
+finished stop steps undefined = record { finish = finish_of stop; line = last_line stop steps undefined }
+
+-- ---- the turns
+
+-- what a step from s to t does with the streams
+abbrev pub turn : State → State → Turned
+turn s t = record { left = t.input; printed = t.out; reported = t.err; asked = asks_next s; spare = ahead t }
+
+-- the guest after a step, with this input left
+abbrev pub next_guest : GuestView → List ℕ → GuestView
+next_guest g left = stepped g (fed left g.state) 0 (step (fed left g.state) 0)
+
+abbrev pub next_turn : GuestView → List ℕ → Turned
+next_turn g left = turn (fed left g.state) (step (fed left g.state) 0)
+
+-- the guest takes no more steps
+abbrev pub stands : GuestView → Plan
+stands g = Ends (Ok (finished g.state.stop g.steps g.undefined))
+
+-- the guest takes at most n steps, as long as it runs
+unfoldable pub guest_plan : ℕ → GuestView → Plan
+guest_plan zero g = stands g
+guest_plan (suc n) g = while_running g.state.stop (Turns (next_turn g) (λ left. guest_plan n (next_guest g left))) (stands g)
+
+-- ---- what the functions owe
+
+abbrev pub stop_of_error : SysError → work.Stop
+stop_of_error sys.Input = Outside objects.Input
+stop_of_error sys.Out = Outside objects.Output
+stop_of_error sys.Report = Outside objects.Report
+stop_of_error sys.Memory = Memory
+
+-- The guest took turns: where this answers Ok the run goes on as the guest stands then, else it ends with the stop.
+abbrev pub TakesTurns : ℕ → GuestView → World → Result (Unit {0}) work.Stop → GuestView → World → Type 0
+TakesTurns n g s (Ok _) h t = (o : End) (u : World) → Went (stands h) t o u → Went (guest_plan n g) s o u
+TakesTurns n g s (Err stop) h t = Went (guest_plan n g) s (Err stop) t
