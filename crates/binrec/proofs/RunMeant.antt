@@ -74,9 +74,10 @@ fetched : (n : ℕ) (args : List (List ℕ)) (word : ℕ) (files : Files) (left 
     → RunsContent n args word left c s result t
 fetched n args word files left s result t told has None w = only_says (Outside objects.Shelf) files left s result t told has w
 fetched n args word files left s result t told has (Some content) w =
-    let P : Ending → Type 0 = λ e. IsWhole files left e s result t in
-    (λ short. read n args word files left s result t told has (elf Guest content) (subst P (cond-true (nat_le (length content) 268435456) _ _ (le-leb (length content) 268435456 short)) w),
-    λ long. only_says (Because (Limited (limits.File 268435456))) files left s result t told has (subst P (cond-false (nat_le (length content) 268435456) _ _ (lt-leb (length content) 268435456 long)) w))
+    let P : Ending → Type 0 = λ e. IsWhole files left e s result t in (
+      λ short. read n args word files left s result t told has (elf Guest content) (subst P (cond-true (nat_le (length content) 268435456) _ _ (le-leb (length content) 268435456 short)) w),
+      λ long. only_says (Because (Limited (limits.File 268435456))) files left s result t told has (subst P (cond-false (nat_le (length content) 268435456) _ _ (lt-leb (length content) 268435456 long)) w),
+    )
 
 decided : (n : ℕ) (name : List ℕ) (args : List (List ℕ)) (word : ℕ) (files : Files) (left : List ℕ) (s : World) (result : ℕ) (t : World) → s.shelf.files ≡ Some files → s.input.bytes ≡ Some left
     → Decided files left (expected (run_plan n name args word) files left) s result t → (result ≡ 4) ⊎ (((result ≡ 3) × (x : Object) × HasFailed x s t) ⊎ RunsContent n args word left (files name) s result t)

@@ -276,10 +276,12 @@ fn runs_as(
 ) -> Result<bool, Fail> {
     let file = with_code(rt, code)?;
     let left = left_by(rt, words, &file, &[], &[])?;
-    Ok(left.status == status
-        && left.report.as_str() == line
-        && left.printed.as_slice() == printed
-        && left.stored.is_none())
+    Ok(
+        left.status == status
+            && left.report.as_str() == line
+            && left.printed.as_slice() == printed
+            && left.stored.is_none(),
+    )
 }
 
 /// Writes 3 bytes from an address, to a descriptor.
@@ -322,7 +324,9 @@ fn stops_at_the_budget(rt: HostRuntime) -> Result<(), Fail> {
 fn tells_a_fault(rt: HostRuntime) -> Result<(), Fail> {
     let mut code = WRITE.to_vec(rt.alloc())?;
     // eax 1, edx 0, ecx 0, div ecx, and the text
-    code.extend_from_slice(&[0xb8, 1, 0, 0, 0, 0xba, 0, 0, 0, 0, 0xb9, 0, 0, 0, 0, 0xf7, 0xf1])?;
+    code.extend_from_slice(&[
+        0xb8, 1, 0, 0, 0, 0xba, 0, 0, 0, 0, 0xb9, 0, 0, 0, 0, 0xf7, 0xf1,
+    ])?;
     code.extend_from_slice(b"hi\n")?;
     let line = "fault divide 08048079 steps 9 undefined 0\n";
     assert!(rt; runs_as(&rt, &["run", "E"], &code, 5, b"hi\n", line)?);

@@ -16,8 +16,8 @@ use crate::commands::run::run_command;
 use crate::words::{read_command, word_of_guest};
 use br_outside::{Shelf, Sink, Source};
 use build_core::image_law;
-use word_reader::Command;
 use std::alloc::Global;
+use word_reader::Command;
 
 /// The status of a command, with which the program ends.
 #[derive(Clone, Copy, Debug, PartialEq, Eq)]

@@ -41,12 +41,7 @@ fn guest_of(alloc: Global, bytes: Vec<u8>, word: u32) -> Result<Exe, Stop>
 }
 
 /// The guest under a name, which this word is, fetched and read.
-fn fetch_guest<F: Shelf>(
-    alloc: Global,
-    shelf: &mut F,
-    name: &str,
-    word: u32,
-) -> Result<Exe, Stop>
+fn fetch_guest<F: Shelf>(alloc: Global, shelf: &mut F, name: &str, word: u32) -> Result<Exe, Stop>
     ensures goes { (w : World) → Goes (λ exe. exe) (guest_part name.now word) (on_shelf w (F.seen shelf.old)) result (on_shelf w (F.seen shelf.new)) }
     ensures guest { IfOk result IsGuest }
 {
@@ -146,18 +141,11 @@ fn fault_line(
 
 /// The last line: how a guest stands, the steps that it took, and how many of them read a flag that was
 /// not defined.
-fn last_line(
-    alloc: Global,
-    stand: Stand,
-    steps: u64,
-    undefined: u64,
-) -> Result<String, AllocError>
+fn last_line(alloc: Global, stand: Stand, steps: u64, undefined: u64) -> Result<String, AllocError>
     ensures { IfOk result (λ line. string_bytes line ≡ last_line (stop_of stand) steps undefined) }
 {
     match stand {
-        Stand::Budget => {
-            format!(in alloc; "budget steps {steps} undefined {undefined}\n")
-        }
+        Stand::Budget => { format!(in alloc; "budget steps {steps} undefined {undefined}\n") }
         Stand::Exited(status) => {
             format!(in alloc; "exit {status} steps {steps} undefined {undefined}\n")
         }
