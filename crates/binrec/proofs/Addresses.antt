@@ -1,5 +1,5 @@
 -- A number in eight hexadecimal digits.
-use Rattle.std.proofs.Common.{◌≡◌, ℕ, ◌-◌, List, [], ◌++◌, length, replicate, false, Option, Some, IfSome, sym, ◌∙◌, ap, subst, arith}
+use Rattle.std.proofs.Common.{◌≡◌, ℕ, ◌-◌, List, [], ◌++◌, length, replicate, false, Option, Some, IfSome, ◌∙◌, ap, subst, arith}
 use Rattle.std.proofs.lemmas.List.{append-nil}
 use Rattle.std.specs.Option.{option_map}
 use Rattle.std.specs.Fmt.{format_spec, padded_integral, char_count, shown_prefix, radix_prefix, digits_output, styled_digits_output}

@@ -1,8 +1,8 @@
 -- The courses that the work of a command can take.
-use Rattle.std.proofs.Common.{◌≡◌, ◌⊎◌, ◌<◌, ◌≤◌, ℕ, List, length, Option, Some, None, IfSome, Result, Ok, Err, IsTrue, refl, sym, ◌∙◌, ap, subst, inl, inr}
+use Rattle.std.proofs.Common.{◌≡◌, ◌⊎◌, ◌<◌, ◌≤◌, ℕ, List, length, Option, Some, None, IfSome, Result, Ok, Err, IsTrue, refl, ◌∙◌, ap, inl, inr}
 use Rattle.std.specs.Option.{option_map}
 use Rattle.br_outside.specs.Files.{Files, put}
-use Rattle.br_outside.specs.Outside.{ShelfView, Rose, Fetched, Stored, SameBut}
+use Rattle.br_outside.specs.Outside.{ShelfView, Rose, Fetched, SameBut}
 use Rattle.br_outside.specs.declared.errors.ShelfError.TheVariants as shelf_errors
 use Rattle.br_outside.specs.declared.errors.StoreError.TheVariants as store_errors
 use Rattle.elf_read.specs.Elf.{elf, Refused}

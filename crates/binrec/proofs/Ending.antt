@@ -12,7 +12,7 @@ use Rattle.guest_run.specs.Guest.{GuestView, while_running, steps_taken, undefin
 use Rattle.guest_run.proofs.Shown.{shown, run_shown, steps_shown, undefined_shown, ahead_shown}
 use Rattle.binrec.specs.Plans.Texts.{End}
 use Rattle.binrec.specs.Plans.Plan.{Plan}
-use Rattle.binrec.specs.Plans.Told.{Ending, ends_with, turned_before, expected}
+use Rattle.binrec.specs.Plans.Told.{Ending, turned_before, expected}
 use Rattle.binrec.specs.Guests.{guest_plan, next_guest, next_turn, stands, finished}
 use Rattle.binrec.proofs.Turning.{has_stopped, runs, none_left}
 

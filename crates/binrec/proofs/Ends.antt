@@ -5,9 +5,8 @@ use Rattle.build_core.specs.Image.{image}
 use Rattle.build_core.specs.declared.image.Built.{Built}
 use Rattle.elf_read.specs.declared.exe.Exe.{Exe}
 use Rattle.binrec.specs.Plans.World.{World}
-use Rattle.binrec.specs.Plans.Texts.{Finished, End}
+use Rattle.binrec.specs.Plans.Texts.{End}
 use Rattle.binrec.specs.Plans.Plan.{Plan, Ends, Stores, Went}
-use Rattle.binrec.specs.Plans.Parts.{ChecksErr}
 use Rattle.binrec.specs.Commands.{image_part, built_line, done_with, end_of}
 use Rattle.binrec.specs.declared.acts.stop.Outcome.{Outcome}
 use Rattle.binrec.specs.declared.acts.stop.Stop.{Stop}

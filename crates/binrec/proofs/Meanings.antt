@@ -3,8 +3,7 @@ use Rattle.std.proofs.Common.{◌≡◌, ◌⊎◌, ◌<◌, ◌≤◌, ℕ, Lis
 use Rattle.std.specs.Option.{option_map}
 use Rattle.std.proofs.lemmas.Bool.{le-leb, lt-leb, cond-true, cond-false}
 use Rattle.br_outside.specs.Files.{Files, put}
-use Rattle.br_outside.specs.Outside.{ShelfView, StreamView, Rose, Gave, SameBut}
-use Rattle.br_outside.specs.declared.errors.SinkError.{SinkError}
+use Rattle.br_outside.specs.Outside.{ShelfView, StreamView}
 use Rattle.br_outside.specs.declared.errors.SinkError.TheVariants as sink_errors
 use Rattle.elf_read.specs.Elf.{elf, Refused}
 use Rattle.elf_read.specs.declared.exe.Exe.{Exe}
@@ -13,14 +12,14 @@ use Rattle.build_core.specs.Image.{image}
 use Rattle.sim_laws.specs.Preserves.{Preserves}
 use Rattle.binrec.specs.Plans.World.{World, on_shelf, on_report}
 use Rattle.binrec.specs.Plans.Texts.{End, end_text, end_status, cause_text, object_text}
-use Rattle.binrec.specs.Plans.Plan.{Plan, Ends, Went}
+use Rattle.binrec.specs.Plans.Plan.{Ends, Went}
 use Rattle.binrec.specs.Plans.Told.{HasFailed}
 use Rattle.binrec.specs.Plans.Happened.{Tells, Reported, Happened}
 use Rattle.word_reader.specs.Words.{Asked, Builds, Traces, Runs, Merges, Shows, Sessions, Demos, command}
 use Rattle.binrec.specs.Words.{built_command, asked_by, word_of_guest}
-use Rattle.binrec.specs.Commands.{build_plan, built_line, done_with, of_command, plan}
+use Rattle.binrec.specs.Commands.{built_line, done_with, of_command, plan}
 use Rattle.binrec.specs.Meaning.{Says, Unstored, OnlyUnder, IsStored, Stores, build_status, read_status, MeansBuild, MeansUsage}
-use Rattle.binrec.specs.declared.acts.stop.Stop.TheVariants.{Because, Outside, Memory}
+use Rattle.binrec.specs.declared.acts.stop.Stop.TheVariants.{Because, Memory}
 use Rattle.binrec.specs.declared.acts.stop.Cause.TheVariants.{Usage, RefusedWord, Limited}
 use Rattle.binrec.specs.declared.acts.stop.Object.TheVariants as objects
 use Rattle.binrec.specs.declared.acts.stop.Limit.TheVariants as limits

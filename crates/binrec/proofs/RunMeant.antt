@@ -1,8 +1,8 @@
 -- What `run` answers means what it is to mean.
-use Rattle.std.proofs.Common.{◌≡◌, ◌⊎◌, ◌<◌, ◌≤◌, ◌+◌, ℕ, nat_le, List, [], ◌++◌, length, drop, Option, Some, None, Result, Ok, Err, cond, refl, sym, ◌∙◌, ap, subst, inl, inr, arith}
+use Rattle.std.proofs.Common.{◌≡◌, ◌⊎◌, ◌≤◌, ◌+◌, ℕ, nat_le, List, [], ◌++◌, length, drop, Option, Some, None, Result, Ok, Err, refl, sym, ◌∙◌, ap, subst, inl, inr, arith}
 use Rattle.std.specs.Option.{option_map}
 use Rattle.std.proofs.lemmas.Bool.{le-leb, lt-leb, cond-true, cond-false}
-use Rattle.br_word.specs.State.{State, Stop, Running, Exited, Faulted}
+use Rattle.br_word.specs.State.{Stop, Running, Exited, Faulted}
 use Rattle.br_outside.specs.Files.{Files}
 use Rattle.elf_read.specs.Elf.{elf, Refused}
 use Rattle.elf_read.specs.declared.exe.Exe.{Exe}
@@ -13,8 +13,7 @@ use Rattle.guest_run.specs.Guest.{beginning, ahead, while_running, steps_taken, 
 use Rattle.word_reader.specs.Words.{Asked, Runs}
 use Rattle.binrec.specs.Words.{asked_by, word_of_guest}
 use Rattle.binrec.specs.Plans.World.{World}
-use Rattle.binrec.specs.Plans.Texts.{End, end_text, end_status, stop_text, stop_status}
-use Rattle.binrec.specs.Plans.Plan.{Plan}
+use Rattle.binrec.specs.Plans.Texts.{end_text, end_status, stop_text, stop_status}
 use Rattle.binrec.specs.Plans.Parts.{checked}
 use Rattle.binrec.specs.Plans.Told.{Ending, ends_with, after_fetch, expected, LeavesBut, HasFailed, IsWhole, Decided, IsExact}
 use Rattle.binrec.specs.Guests.{guest_plan, finished}
@@ -27,7 +26,7 @@ use Rattle.binrec.specs.declared.acts.stop.Object.{Object}
 use Rattle.binrec.specs.declared.acts.stop.Object.TheVariants as objects
 use Rattle.binrec.specs.declared.acts.stop.Limit.TheVariants as limits
 use Rattle.binrec.proofs.Plans.Steps.{nothing}
-use Rattle.binrec.proofs.Ending.{EndsAs, IsBare, ends_as}
+use Rattle.binrec.proofs.Ending.{EndsAs, ends_as}
 
 -- the work ended before the guest was beginning
 only_says : (stop : Why) (files : Files) (left : List ℕ) (s : World) (result : ℕ) (t : World) → s.shelf.files ≡ Some files → s.input.bytes ≡ Some left

@@ -1,5 +1,5 @@
 -- The ends that `run` can come to.
-use Rattle.std.proofs.Common.{◌≡◌, ◌⊎◌, ℕ, zero, suc, List, Result, Ok, Err, refl, sym, ◌∙◌, ap, subst, inl, inr, arith}
+use Rattle.std.proofs.Common.{◌≡◌, ℕ, zero, suc, List, Result, Ok, Err, sym, ◌∙◌, subst, inl, inr, arith}
 use Rattle.br_word.specs.State.{Stop, Running, Exited, Faulted}
 use Rattle.br_outside.specs.declared.errors.ShelfError.TheVariants as shelf_errors
 use Rattle.br_outside.specs.declared.errors.SinkError.TheVariants as sink_errors
@@ -8,10 +8,10 @@ use Rattle.elf_read.specs.declared.exe.Exe.{Exe}
 use Rattle.elf_read.specs.declared.exe.Reach.TheVariants.{Guest}
 use Rattle.guest_run.specs.Guest.{GuestView, beginning, while_running}
 use Rattle.binrec.specs.Plans.World.{World, on_shelf}
-use Rattle.binrec.specs.Plans.Texts.{Finished, End, end_status, finish_status}
-use Rattle.binrec.specs.Plans.Plan.{Plan, Ends, Turns, Went, GoesOn, FailsInput, FailsOutput, FailsReport, WantsMemory}
+use Rattle.binrec.specs.Plans.Texts.{End, end_status, finish_status}
+use Rattle.binrec.specs.Plans.Plan.{Plan, Turns, Went, GoesOn, FailsInput, FailsOutput, FailsReport, WantsMemory}
 use Rattle.binrec.specs.Plans.Parts.{checked}
-use Rattle.binrec.specs.Plans.Happened.{Reported, Tells}
+use Rattle.binrec.specs.Plans.Happened.{Reported}
 use Rattle.binrec.specs.Guests.{guest_plan, next_guest, next_turn, stands, finish_of}
 use Rattle.binrec.specs.Commands.{of_word, run_plan}
 

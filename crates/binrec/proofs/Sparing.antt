@@ -1,6 +1,6 @@
 -- A guest takes more of the input than it uses in its last turn alone.
-use Rattle.std.proofs.Common.{◌≡◌, ◌⊎◌, ℕ, zero, suc, List, Result, Ok, Err, refl, sym, ◌∙◌, subst, inl, inr}
-use Rattle.br_word.specs.State.{State, Stop, Running, Exited, Faulted}
+use Rattle.std.proofs.Common.{◌≡◌, ◌⊎◌, ℕ, zero, suc, List, Result, Ok, Err, refl, ◌∙◌, inl, inr}
+use Rattle.br_word.specs.State.{Stop, Running, Exited, Faulted}
 use Rattle.ia_inst.specs.Step.{step}
 use Rattle.elf_read.specs.Elf.{elf, Refused}
 use Rattle.elf_read.specs.declared.exe.Exe.{Exe}
@@ -15,7 +15,7 @@ use Rattle.binrec.specs.Plans.Plan.{Plan, Ends, Turns}
 use Rattle.binrec.specs.Plans.Parts.{checked}
 use Rattle.binrec.specs.Plans.Told.{IsSparing}
 use Rattle.binrec.specs.Guests.{guest_plan, next_guest, next_turn, stands, finished}
-use Rattle.binrec.specs.Commands.{of_word, image_part, build_plan, run_plan, asked_plan, of_command, plan}
+use Rattle.binrec.specs.Commands.{of_word, image_part, of_command, plan}
 use Rattle.binrec.specs.declared.acts.stop.Cause.{Cause}
 use Rattle.binrec.proofs.Turning.{has_stopped}
 

@@ -1,10 +1,10 @@
 -- What the top call owes follows from what happened.
-use Rattle.std.proofs.Common.{◌≡◌, ◌⊎◌, ℕ, List, [], Result, Ok, Err, refl, sym, ap, subst, inl, inr}
+use Rattle.std.proofs.Common.{◌≡◌, ℕ, List, [], Result, Ok, Err, refl, sym, ap, subst, inl, inr}
 use Rattle.br_outside.specs.Outside.{StreamView}
 use Rattle.binrec.specs.Plans.World.{World, on_report}
 use Rattle.binrec.specs.Plans.Texts.{End}
 use Rattle.binrec.specs.Plans.Plan.{Plan, Went}
-use Rattle.binrec.specs.Plans.Happened.{Tells, TellsStop, Happened}
+use Rattle.binrec.specs.Plans.Happened.{TellsStop, Happened}
 use Rattle.binrec.specs.Plans.Told.{IsExact, IsComplete, HasCause}
 use Rattle.word_reader.specs.Words.{Asked, Builds, Runs}
 use Rattle.binrec.specs.Words.{asked_by, word_of_guest}

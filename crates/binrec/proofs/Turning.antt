@@ -1,19 +1,18 @@
 -- A guest's steps as turns of its plan.
-use Rattle.std.proofs.Common.{◌≡◌, ◌⊎◌, ◌<◌, ◌≤◌, ◌+◌, ℕ, zero, suc, Bool, true, false, IsTrue, List, [], Option, Some, None, IfSome, Result, Ok, Err, refl, sym, ◌∙◌, ap, subst, inl, inr, arith}
+use Rattle.std.proofs.Common.{◌≡◌, ◌<◌, ◌≤◌, ◌+◌, ℕ, zero, suc, Bool, true, false, IsTrue, List, Ok, Err, refl, sym, ◌∙◌, ap, subst, inr}
 use Rattle.br_outside.specs.Outside.{ShelfView, StreamView}
 use Rattle.br_word.specs.State.{State, Stop, Running, Exited, Faulted}
-use Rattle.ia_inst.specs.Step.{step}
 use Rattle.guest_sys.specs.Streams.{Streams, Tells}
 use Rattle.guest_sys.specs.Machine.{fed}
 use Rattle.guest_sys.specs.Calls.{asks}
 use Rattle.guest_sys.specs.declared.answers.SysError.{SysError}
 use Rattle.guest_sys.specs.declared.answers.SysError.TheVariants as sys
 use Rattle.guest_run.specs.declared.stop.Stop as answer
-use Rattle.guest_run.specs.Guest.{GuestView, StepDone, StepFailed, NoStep, Steps, streams, stepped, stop_of, answer_of, while_running, asks_by, asks_next, traps}
+use Rattle.guest_run.specs.Guest.{GuestView, StepDone, StepFailed, NoStep, Steps, streams, stop_of, answer_of, while_running, asks_by, asks_next, traps}
 use Rattle.binrec.specs.Plans.World.{World, world}
-use Rattle.binrec.specs.Plans.Texts.{Finished, End}
-use Rattle.binrec.specs.Plans.Plan.{Plan, Ends, Turns, Turned, Went, IsTurned, AfterTurn, GoesOn, FailsInput, FailsOutput, FailsReport, WantsMemory}
-use Rattle.binrec.specs.Guests.{last_line, finish_of, finished, next_guest, next_turn, stands, guest_plan, stop_of_error}
+use Rattle.binrec.specs.Plans.Texts.{End}
+use Rattle.binrec.specs.Plans.Plan.{Plan, Turns, Went, AfterTurn, GoesOn, FailsInput, FailsOutput, FailsReport, WantsMemory}
+use Rattle.binrec.specs.Guests.{last_line, finish_of, next_guest, next_turn, stands, guest_plan, stop_of_error}
 use Rattle.binrec.specs.declared.acts.stop.Finish.{Finish}
 
 -- ---- how a guest stands

@@ -1,5 +1,5 @@
 -- A guest's run as turns, and its last line.
-use Rattle.std.specs.Prelude.{ℕ, zero, suc, ◌-◌, Bool, false, List, ◌++◌, length, codes, replicate, Ok, Err, Result}
+use Rattle.std.specs.Prelude.{ℕ, zero, suc, ◌-◌, false, List, ◌++◌, length, codes, replicate, Ok, Err, Result}
 use Rattle.std.specs.Fmt.{decimal, digits}
 use Rattle.br_word.specs.declared.types.GuestFault.{GuestFault}
 use Rattle.br_word.specs.declared.types.GuestFault.TheVariants.{Access, Illegal, Divide}

@@ -1,27 +1,21 @@
-use Rattle.std.proofs.Common.{◌≡◌, ◌⊎◌, ◌<◌, ◌≤◌, ◌+◌, ◌-◌, ◌^◌, nat_le, min, ℕ, List, [], ◌∷◌, ◌++◌, length, take, drop, Option, Some, None, Result, Ok, Err, cond, Bool, true, false, IsTrue, IfSome, IsErrAnd, refl, sym, ◌∙◌, ap, subst, inl, inr, arith, append_assoc}
+use Rattle.std.proofs.Common.{◌≡◌, ◌⊎◌, ◌<◌, ◌≤◌, ◌+◌, nat_le, ℕ, List, [], ◌++◌, length, drop, Option, Some, None, Result, Ok, Err, IsTrue, IfSome, refl, sym, ◌∙◌, ap, subst, inl, inr, arith}
 use Rattle.std.specs.Option.{option_map}
-use Rattle.std.proofs.lemmas.List.{append-nil}
 use Rattle.std.proofs.lemmas.Bool.{le-leb, lt-leb, cond-true, cond-false}
 use Rattle.br_outside.specs.Files.{Files, put}
-use Rattle.br_outside.specs.Outside.{ShelfView, StreamView, Rose, Fetched, Stored, Gave}
-use Rattle.br_outside.specs.declared.errors.ShelfError.{ShelfError}
+use Rattle.br_outside.specs.Outside.{ShelfView, StreamView, Rose, Fetched, Stored}
 use Rattle.br_outside.specs.declared.errors.ShelfError.TheVariants as shelf_errors
-use Rattle.br_outside.specs.declared.errors.StoreError.{StoreError}
 use Rattle.br_outside.specs.declared.errors.StoreError.TheVariants as store_errors
-use Rattle.br_outside.specs.declared.errors.SinkError.{SinkError}
 use Rattle.br_outside.specs.declared.errors.SinkError.TheVariants as sink_errors
-use Rattle.binrec.specs.Plans.World.{World, on_shelf, on_input, on_out, on_report, faults_of, calm_of}
-use Rattle.binrec.specs.Plans.Plan.{Plan, Ends, Fetches, Stores, Prints, Turned, Turns, Went, Run, RunsOut, CallFails, AfterFetch, AfterStore, AfterGive, IsTurned, AfterTurn, GoesOn, FailsInput, FailsOutput, FailsReport, WantsMemory, planned_end}
-use Rattle.binrec.specs.Plans.Texts.{Finished, End, end_text, end_status, object_text, finish_status, cause_status}
-use Rattle.binrec.specs.declared.acts.stop.Stop.{Stop}
+use Rattle.binrec.specs.Plans.World.{World, on_shelf, on_out, faults_of, calm_of}
+use Rattle.binrec.specs.Plans.Plan.{Plan, Ends, Fetches, Stores, Prints, Turned, Turns, Went, IsTurned, AfterTurn, GoesOn, FailsInput, FailsOutput, FailsReport, WantsMemory, planned_end}
+use Rattle.binrec.specs.Plans.Texts.{Finished, End}
 use Rattle.binrec.specs.declared.acts.stop.Stop.TheVariants.{Because, Outside, Memory}
 use Rattle.binrec.specs.declared.acts.stop.Cause.{Cause}
-use Rattle.binrec.specs.declared.acts.stop.Cause.TheVariants.{Usage, RefusedWord, Limited}
-use Rattle.binrec.specs.declared.acts.stop.Finish.TheVariants as finishes
+use Rattle.binrec.specs.declared.acts.stop.Cause.TheVariants.{Limited}
 use Rattle.binrec.specs.declared.acts.stop.Object.{Object}
 use Rattle.binrec.specs.declared.acts.stop.Object.TheVariants as objects
 use Rattle.binrec.specs.declared.acts.stop.Limit.TheVariants as limits
-use Rattle.binrec.specs.Plans.Told.{Ending, ends_with, after_fetch, printed_before, turned_before, expected, NoFiles, NoInput, IsSparing, LeavesBut, IsTold, HasFailed}
+use Rattle.binrec.specs.Plans.Told.{Ending, ends_with, after_fetch, turned_before, expected, NoFiles, NoInput, IsSparing, LeavesBut, IsTold, HasFailed}
 use Rattle.binrec.proofs.Plans.Steps.{IsKept, nothing, two_texts, shelf_kept, out_kept, rises, fails_later, no_fault}
 use Rattle.binrec.proofs.Plans.Turns.{turned_kept}
 

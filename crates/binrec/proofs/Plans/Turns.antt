@@ -1,12 +1,11 @@
 -- What a turn keeps.
 use Rattle.std.proofs.Common.{◌≡◌, ◌≤◌, ℕ, List, [], ◌++◌, take, refl, sym, ◌∙◌, ap, subst, arith}
 use Rattle.std.specs.Option.{option_map}
-use Rattle.br_outside.specs.Outside.{ShelfView, StreamView, Rose}
-use Rattle.guest_sys.specs.Streams.{Steady, Fails, WasGiven}
-use Rattle.binrec.specs.Plans.World.{World, faults_of, calm_of}
+use Rattle.br_outside.specs.Outside.{ShelfView, StreamView}
+use Rattle.guest_sys.specs.Streams.{Steady, Fails}
+use Rattle.binrec.specs.Plans.World.{World}
 use Rattle.binrec.specs.Plans.Texts.{End}
 use Rattle.binrec.specs.Plans.Plan.{Turned, IsTurned, InputFails, OutputFails, ReportFails, TurnRunsOut}
-use Rattle.binrec.specs.declared.acts.stop.Object.{Object}
 use Rattle.binrec.specs.declared.acts.stop.Object.TheVariants as objects
 use Rattle.binrec.proofs.Plans.Steps.{IsKept, nothing}
 

@@ -1,7 +1,7 @@
 -- What a function owes that does a part of a plan.
-use Rattle.std.specs.Prelude.{◌≡◌, ℕ, List, Result, Ok, Err}
+use Rattle.std.specs.Prelude.{◌≡◌, Result, Ok, Err}
 use Rattle.binrec.specs.Plans.World.{World}
-use Rattle.binrec.specs.Plans.Texts.{Finished, End}
+use Rattle.binrec.specs.Plans.Texts.{End}
 use Rattle.binrec.specs.Plans.Plan.{Plan, Ends, Went}
 use Rattle.binrec.specs.declared.acts.stop.Stop.{Stop}
 use Rattle.binrec.specs.declared.acts.stop.Stop.TheVariants.{Because, Outside, Memory}

@@ -1,6 +1,6 @@
 -- A command as the calls that it makes of the outside, in order, and how a run goes through it.
-use Rattle.std.specs.Prelude.{◌≡◌, ◌⊎◌, ◌<◌, ◌≤◌, ℕ, List, [], length, take, drop, Option, Some, None, IfSome, Result, Ok, Err, Bool, IsTrue}
-use Rattle.br_outside.specs.Outside.{ShelfView, StreamView, Rose, Fetched, Stored, Gave}
+use Rattle.std.specs.Prelude.{◌≡◌, ◌⊎◌, ◌<◌, ◌≤◌, ℕ, List, [], take, drop, Result, Ok, Err}
+use Rattle.br_outside.specs.Outside.{ShelfView, StreamView, Fetched, Stored, Gave}
 use Rattle.br_outside.specs.declared.errors.ShelfError.{ShelfError}
 use Rattle.br_outside.specs.declared.errors.ShelfError.TheVariants as shelf_errors
 use Rattle.br_outside.specs.declared.errors.StoreError.{StoreError}
@@ -10,7 +10,6 @@ use Rattle.br_outside.specs.declared.errors.SinkError.TheVariants as sink_errors
 use Rattle.guest_sys.specs.Streams.{Steady, Fails, Tells, HasLeft, WasGiven, Leaves, Gains}
 use Rattle.binrec.specs.Plans.World.{World, on_shelf, on_out}
 use Rattle.binrec.specs.Plans.Texts.{Finished, End}
-use Rattle.binrec.specs.declared.acts.stop.Stop.{Stop}
 use Rattle.binrec.specs.declared.acts.stop.Stop.TheVariants.{Because, Outside, Memory}
 use Rattle.binrec.specs.declared.acts.stop.Cause.{Cause}
 use Rattle.binrec.specs.declared.acts.stop.Cause.TheVariants.{Limited}

@@ -1,5 +1,5 @@
 -- The report lines and the statuses.
-use Rattle.std.specs.Prelude.{ℕ, List, [], ◌∷◌, ◌++◌, codes, Result, Ok, Err}
+use Rattle.std.specs.Prelude.{ℕ, List, ◌++◌, codes, Result, Ok, Err}
 use Rattle.std.specs.Fmt.{decimal}
 use Rattle.binrec.specs.declared.acts.stop.Finish.{Finish}
 use Rattle.binrec.specs.declared.acts.stop.Finish.TheVariants as finishes
@@ -9,7 +9,6 @@ use Rattle.binrec.specs.declared.acts.stop.Cause.{Cause}
 use Rattle.binrec.specs.declared.acts.stop.Cause.TheVariants.{Usage, RefusedWord, Limited}
 use Rattle.binrec.specs.declared.acts.stop.Object.{Object}
 use Rattle.binrec.specs.declared.acts.stop.Object.TheVariants as objects
-use Rattle.binrec.specs.declared.acts.stop.Limit.{Limit}
 use Rattle.binrec.specs.declared.acts.stop.Limit.TheVariants as limits
 
 -- work that is done: how, and the line to report

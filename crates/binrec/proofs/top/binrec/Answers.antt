@@ -1,5 +1,5 @@
-use Rattle.std.proofs.Common.{Ok, refl, inr, map, string_bytes}
-use Rattle.binrec.specs.Plans.World.{World, world}
+use Rattle.std.proofs.Common.{refl, inr, map, string_bytes}
+use Rattle.binrec.specs.Plans.World.{world}
 use Rattle.binrec.proofs.Tops.{reported_stop, all_of}
 use Rattle.binrec.proofs.top.binrec.Goals as goal
 

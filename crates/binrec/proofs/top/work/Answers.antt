@@ -1,6 +1,6 @@
-use Rattle.std.proofs.Common.{map, string_bytes, Ok, ap, ◌∙◌, subst}
+use Rattle.std.proofs.Common.{map, string_bytes, Ok, ap, ◌∙◌}
 use Rattle.word_reader.specs.Reads.{asked_of}
-use Rattle.word_reader.specs.Words.{Builds, Runs}
+use Rattle.word_reader.specs.Words.{Builds}
 use Rattle.binrec.specs.Plans.World.{world}
 use Rattle.binrec.proofs.Tops.{no_command, asked_for, run_for}
 use Rattle.binrec.proofs.Fitting.{asked_fits}

@@ -1,4 +1,3 @@
-use Rattle.std.proofs.Common.{refl, sym}
 use Rattle.binrec.specs.Guests.{stands}
 use Rattle.binrec.proofs.Plans.Runs.{runs_out}
 use Rattle.binrec.proofs.Turning.{stood}

@@ -1,4 +1,4 @@
-use Rattle.std.proofs.Common.{◌≡◌, ◌+◌, ◌-◌, suc, refl, arith}
+use Rattle.std.proofs.Common.{◌+◌, ◌-◌, arith}
 use Rattle.binrec.proofs.Turning.{steps_on, stays, fails, before, at_last, took_step}
 use Rattle.binrec.proofs.commands.run.take_turns.Goals as goal
 

@@ -1,4 +1,4 @@
-use Rattle.std.proofs.Common.{◌≡◌, ◌≤◌, ◌+◌, ◌-◌, true}
+use Rattle.std.proofs.Common.{◌≡◌, ◌+◌, ◌-◌, true}
 use Rattle.br_outside.specs.Outside.{ShelfView}
 use Rattle.binrec.specs.Plans.World.{World, world}
 use Rattle.binrec.specs.Plans.Texts.{End}
