@@ -28,19 +28,14 @@ skip() { echo "== $1: skipped: $2"; }
 # Whether the program knows a command: without words it refuses an unknown one at position 0.
 knows() { [ "$("$program" "$1" 2>&1 < /dev/null)" != 'usage 0' ]; }
 
-# The stage and commands to compare, lower ones where the program has no `run` or only a part of the instruction table.
+# The stage and commands to compare, lower ones where the program has no `run`.
 choose_stage() {
-    local probe
     stage=$built_stage
     commands=$built_commands
     if ! knows run; then
-        stage=first-path commands=build0
-        return
+        stage=first-path
+        commands=build0
     fi
-    probe=$(mktemp)
-    (. scripts/lib.sh && executable "$probe" '21c0 b801000000 bb00000000 cd80')
-    [ "$("$program" run "$probe" 2>&1 < /dev/null)" = 'exit 0 steps 4 undefined 0' ] || stage=run
-    rm -f "$probe"
 }
 
 # The comparison with the reference program, from a copy of both, since the reference is built beside its sources.
@@ -69,12 +64,7 @@ spellings() {
     elif knows show; then
         check 'spellings, by show' python3 scripts/check_spellings.py --seed "$(date +%Y%m%d)" python3 scripts/decode_by_show.py "$program"
     elif knows run; then
-        choose_stage
-        if [ "$stage" = run ]; then
-            skip 'spellings' 'the program does not know the whole instruction table yet'
-        else
-            check 'spellings, a sample by run' python3 scripts/check_spellings.py --sample 600 python3 scripts/decode_by_run.py "$program"
-        fi
+        check 'spellings, a sample by run' python3 scripts/check_spellings.py --sample 600 python3 scripts/decode_by_run.py "$program"
     else
         skip 'spellings' 'the program has neither show nor run yet'
     fi

@@ -135,6 +135,12 @@ machine_rows() {
     row 'a flag that AND defines' 0 '' 'exit 0 steps 5 undefined 0\n' run defined
     executable undefined "f7e0 7400 $exit_code"
     row 'a flag that MUL leaves undefined' 0 '' 'exit 0 steps 5 undefined 1\n' run undefined
+    executable zero_count "b801000000 b920000000 83f801 d3e0 7405 bb07000000 $exit_code"
+    row 'a shift by a count that is 0 modulo 32 keeps the flags' 0 '' 'exit 0 steps 8 undefined 0\n' run zero_count
+    executable downwards "be02f0ffbf bf03f0ffbf b903000000 fd f3a4 89cb b801000000 cd80"
+    row 'three repeated moves are three steps' 0 '' 'exit 0 steps 10 undefined 0\n' run downwards
+    executable none "be02f0ffbf bf03f0ffbf b900000000 fd f3a4 89cb b801000000 cd80"
+    row 'no repeated move is one step' 0 '' 'exit 0 steps 8 undefined 0\n' run none
     executable header 'b804000000 bb01000000 b900800408 ba04000000 cd80 b801000000 bb00000000 cd80'
     row 'a guest that writes its own header' 0 '\x7fELF' 'exit 0 steps 8 undefined 0\n' run header
     executable three 'b803000000 bb00000000 8d4c24f0 ba03000000 cd80 89c3 b801000000 cd80'
