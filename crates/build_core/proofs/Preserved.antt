@@ -1,12 +1,11 @@
 -- The file with one jump before the original's segments does what the original does.
-use Rattle.std.proofs.Common.{◌≡◌, ℕ, zero, suc, ◌+◌, ◌-◌, ◌*◌, ◌/◌, ◌%◌, ◌^◌, ◌<◌, ◌≤◌, Bool, true, false, List, [], ◌∷◌, ◌++◌, length, take, drop, map, Option, Some, None, refl, sym, ap, ◌∙◌, subst, arith, length-append, lit≤, mul-le-mul_right}
-use Rattle.std.specs.Prelude.{Result, Ok, Err}
+use Rattle.std.proofs.Common.{◌≡◌, ℕ, zero, suc, ◌+◌, ◌-◌, ◌*◌, ◌%◌, ◌^◌, ◌<◌, ◌≤◌, false, List, [], ◌∷◌, ◌++◌, length, drop, map, refl, sym, ap, ◌∙◌, subst, arith, length-append, lit≤, mul-le-mul_right}
+use Rattle.std.specs.Prelude.{Ok}
 use Rattle.std.specs.Int.{w32, from_le_bytes, to_le_bytes}
 use Rattle.std.proofs.lemmas.Nat.{from_le_bytes-to_le_bytes_4}
 use Rattle.br_word.specs.Memory.{Region, bytes_at, bytes_of, zeros}
 use Rattle.br_word.specs.State.{State, all_flags}
 use Rattle.br_word.proofs.Numbers.{length_zeros, length_bytes_of}
-use Rattle.ia_inst.specs.declared.inst.Inst.TheVariants.{Jmp}
 use Rattle.ia_inst.specs.Meaning.{meaning, wrap}
 use Rattle.ia_inst.specs.Reading.{byte_at, four_at}
 use Rattle.ia_inst.specs.Prefixes.{prefixes_at}
@@ -20,7 +19,7 @@ use Rattle.guest_mem.specs.Regions.{region_of}
 use Rattle.guest_run.specs.Opening.{arguments, opening, opening_of, exe_or_none}
 use Rattle.guest_run.specs.Run.{observed, observed_of, first_choice, run, WellDefined, IsWellDefinedRun}
 use Rattle.elf_write.specs.File.{file_of}
-use Rattle.sim_laws.specs.Preserves.{Preserves, ReachesAt, ShowsAt}
+use Rattle.sim_laws.specs.Preserves.{Preserves, ShowsAt}
 use Rattle.sim_laws.proofs.Widen.{AllLow, AllHigh, widen, IsHigh, run_more}
 use Rattle.build_core.specs.Image.{jump_code, code_segment, private_segment, image}
 

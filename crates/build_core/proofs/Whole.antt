@@ -1,16 +1,16 @@
 -- Each original that is accepted, and its file.
-use Rattle.std.proofs.Common.{◌≡◌, ℕ, zero, suc, ◌+◌, ◌-◌, ◌*◌, ◌/◌, ◌%◌, ◌^◌, ◌<◌, ◌≤◌, Bool, true, false, List, [], ◌∷◌, ◌++◌, length, refl, sym, ap, ◌∙◌, subst, arith, lit<, lit≤}
-use Rattle.std.specs.Prelude.{Result, Ok, Err}
+use Rattle.std.proofs.Common.{◌≡◌, ℕ, suc, ◌+◌, ◌-◌, ◌%◌, ◌^◌, ◌≤◌, true, List, [], ◌∷◌, length, refl, sym, ap, ◌∙◌, subst, arith, lit<, lit≤}
+use Rattle.std.specs.Prelude.{Ok}
 use Rattle.br_word.proofs.Numbers.{length_bytes_of}
 use Rattle.elf_read.specs.declared.exe.Segment.{Segment}
 use Rattle.elf_read.specs.declared.exe.Exe.{Exe}
-use Rattle.elf_read.specs.declared.exe.Reach.TheVariants.{Original, Guest}
-use Rattle.elf_read.specs.Elf.{IsExe, IsOriginal, IsSegment, AreSegments, Ascend, is_exec, sizes, end_of_last, round_up, exe_of, elf}
-use Rattle.elf_read.proofs.Accepted.{last_high, lower, ascend_from, entry_bound, IsAccepted, accepted}
+use Rattle.elf_read.specs.declared.exe.Reach.TheVariants.{Original}
+use Rattle.elf_read.specs.Elf.{IsOriginal, AreSegments, is_exec, end_of_last, round_up, exe_of, elf}
+use Rattle.elf_read.proofs.Accepted.{last_high, lower, ascend_from, entry_bound, accepted}
 use Rattle.elf_write.specs.File.{IsWritable}
 use Rattle.elf_write.proofs.ReadBack.{read_back}
 use Rattle.sim_laws.specs.Preserves.{Preserves}
-use Rattle.build_core.specs.Image.{code_segment, private_segment, jump_code, image_segments, image}
+use Rattle.build_core.specs.Image.{private_segment, jump_code, image_segments, image}
 use Rattle.build_core.proofs.Preserved.{with_jump, StartHigh, IsAbove, preserved}
 
 not_empty : (entry : ℕ) (ss : List Segment) → is_exec entry ss ≡ true → (s : Segment) × (rest : List Segment) × (ss ≡ s ∷ rest)

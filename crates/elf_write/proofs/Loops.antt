@@ -1,11 +1,9 @@
 -- Steps of the writer's loops.
-use Rattle.std.proofs.Common.{◌≡◌, ℕ, suc, ◌+◌, ◌*◌, ◌^◌, ◌<◌, ◌≤◌, List, [], ◌∷◌, ◌++◌, length, drop, get_or, refl, sym, ap, ◌∙◌, arith, append_assoc, length-append}
-use Rattle.std.proofs.Math.Seq.{drop-cons}
+use Rattle.std.proofs.Common.{◌≡◌, ℕ, ◌+◌, ◌*◌, ◌^◌, ◌≤◌, List, [], ◌∷◌, ◌++◌, length, refl, sym, ap, ◌∙◌, arith, append_assoc, length-append}
 use Rattle.br_word.specs.Memory.{bytes_of}
 use Rattle.elf_read.specs.declared.exe.Segment.{Segment}
 use Rattle.elf_read.specs.Elf.{IsSegment, AreSegments, sizes}
 use Rattle.elf_write.specs.File.{end_after, end_of_all, piece_of, program_header, program_headers, pieces, file_header, head_length, file_of, IsWritable}
-use Rattle.elf_read.proofs.Parts.{next_is}
 use Rattle.elf_write.proofs.ReadBack.{end_bound, headers_apart, file_head_apart}
 
 -- what is left to be written at a place, below a limit

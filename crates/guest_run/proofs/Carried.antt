@@ -1,8 +1,7 @@
 -- An instruction as a step.
-use Rattle.std.proofs.Common.{◌≡◌, ℕ, ◌+◌, ◌<◌, ◌≤◌, Bool, true, false, List, [], get_or, Option, Some, None, IfSome, Result, Ok, Err, refl, sym, ◌∙◌, ap, subst, arith, IsTrue}
+use Rattle.std.proofs.Common.{◌≡◌, ℕ, ◌+◌, Bool, true, false, List, [], Option, Some, None, Result, Ok, refl, sym, ◌∙◌, ap, subst, arith, IsTrue}
 use Rattle.br_word.specs.declared.types.GuestFault.{GuestFault}
 use Rattle.br_word.specs.declared.types.GuestFault.TheVariants.{Access, Illegal, Divide}
-use Rattle.br_word.specs.Memory.{Region}
 use Rattle.br_word.specs.Words.{bit}
 use Rattle.br_word.specs.State as state
 use Rattle.br_word.specs.State.{State, Stop, Running, Exited, Faulted, Flag}
@@ -10,27 +9,26 @@ use Rattle.ia_inst.specs.declared.inst.Inst.{Inst}
 use Rattle.ia_inst.specs.declared.inst.Inst.TheVariants as inst
 use Rattle.ia_inst.specs.Canonical.{valid_of}
 use Rattle.guest_run.specs.declared.advance.Code.TheVariants as code
-use Rattle.ia_inst.specs.Act.{Place, End, Next, Denied, Divided, Called, perform, asked}
-use Rattle.ia_inst.specs.Meaning.{meaning, wrap}
+use Rattle.ia_inst.specs.Act.{End, Next, Denied, Divided, Called, perform}
+use Rattle.ia_inst.specs.Meaning.{meaning}
 use Rattle.ia_inst.specs.Kinds.{flags_read}
-use Rattle.ia_inst.specs.System.{Way, On, Bad, system}
-use Rattle.ia_inst.specs.Step.{Found, NoCode, NoInst, There, act_of, way_of, way_at, place_of, settled, asked_at}
+use Rattle.ia_inst.specs.System.{Way, On, Bad}
+use Rattle.ia_inst.specs.Step.{Found, NoCode, NoInst, There, way_of, place_of, settled, asked_at}
 use Rattle.ia_inst.proofs.Asked.{asked_is_read}
-use Rattle.br_outside.specs.Outside.{StreamView}
 use Rattle.guest_mem.specs.View.{MemoryView}
 use Rattle.ia_meaning.specs.declared.cpu.Cpu.{Cpu}
 use Rattle.ia_meaning.specs.declared.cpu.Outcome.TheVariants as outcome
 use Rattle.ia_meaning.specs.Effect.{view, Comes, some_unmarked}
 use Rattle.guest_sys.specs.declared.answers.SysError.{SysError}
-use Rattle.guest_sys.specs.Streams.{Streams, Tells, Leaves, Gains}
-use Rattle.guest_sys.specs.Machine.{Machine, machine, state_of, fed, bare}
-use Rattle.guest_sys.specs.Calls.{Passes, spare}
+use Rattle.guest_sys.specs.Streams.{Streams, Tells}
+use Rattle.guest_sys.specs.Machine.{Machine, state_of, fed}
+use Rattle.guest_sys.specs.Calls.{Passes}
 use Rattle.guest_sys.proofs.Done.{had, told_had, leaves_same, gains_none}
 use Rattle.guest_run.specs.declared.stop.Stop.TheVariants as answers
 use Rattle.guest_run.specs.declared.advance.Advanced.{Advanced}
 use Rattle.guest_run.specs.Edges.{Edge, edge_by, is_transfer}
-use Rattle.guest_run.specs.Guest.{answer_of, first_edge, is_trap, asks_by}
-use Rattle.guest_run.specs.Advance.{Expected, Advances, AdvanceFails, AdvanceGives, Advance, Trap, of_call, IsFound, expected, edge_if}
+use Rattle.guest_run.specs.Guest.{first_edge, is_trap}
+use Rattle.guest_run.specs.Advance.{Expected, Advances, AdvanceGives, Advance, Trap, of_call, IsFound, edge_if}
 use Rattle.guest_run.proofs.NoCall.{called_traps}
 
 -- no stream is touched

@@ -1,10 +1,10 @@
 -- What stands at an address, read from its first bytes.
-use Rattle.std.proofs.Common.{◌≡◌, ℕ, ◌<◌, ◌≤◌, List, [], ◌∷◌, ◌++◌, length, take, drop, get_or, Option, Some, None, IfSome, refl, sym, ◌∙◌, ap, subst, IsTrue, ◌↔◌}
+use Rattle.std.proofs.Common.{◌≡◌, ℕ, List, ◌++◌, length, take, drop, Option, Some, None, IfSome, refl, sym, ◌∙◌, ap, subst, IsTrue}
 use Rattle.std.proofs.lemmas.List.{take_at}
 use Rattle.ia_inst.specs.declared.inst.Inst.{Inst}
 use Rattle.ia_inst.specs.Canonical.{valid_of}
 use Rattle.ia_inst.specs.Instructions.{decode_of}
-use Rattle.ia_inst.specs.Step.{Found, NoCode, NoInst, There, found_from, found_in}
+use Rattle.ia_inst.specs.Step.{Found, NoInst, There, found_from, found_in}
 use Rattle.ia_decode.proofs.Answered.{decode_take, decode_valid}
 use Rattle.ia_decode.proofs.Steps.{IsBytes}
 use Rattle.guest_mem.specs.View.{fetched}

@@ -1,17 +1,14 @@
 -- A run as a step and the rest of the run.
-use Rattle.std.proofs.Common.{◌≡◌, ℕ, zero, suc, ◌+◌, ◌<◌, ◌≤◌, min, Bool, true, false, List, [], ◌∷◌, ◌++◌, length, take, drop, Option, Some, None, IfSome, Result, Ok, Err, refl, sym, ◌∙◌, ap, subst, arith, IsTrue, append_assoc, option_map, length-append}
+use Rattle.std.proofs.Common.{◌≡◌, ℕ, zero, suc, ◌+◌, ◌≤◌, List, [], ◌∷◌, ◌++◌, drop, Option, Some, None, IfSome, refl, sym, ◌∙◌, ap, subst, arith, append_assoc, option_map}
 use Rattle.std.proofs.lemmas.List.{append-nil}
 use Rattle.br_word.specs.Words.{bit}
 use Rattle.br_word.specs.State.{State, Stop, Running, Exited, Faulted}
 use Rattle.ia_inst.specs.Step.{unless_stopped, settled, step_way, step}
-use Rattle.br_outside.specs.Outside.{StreamView, Rose}
-use Rattle.guest_sys.specs.declared.answers.SysError.{SysError}
-use Rattle.guest_sys.specs.declared.answers.SysError.TheVariants.{Input, Out, Report, Memory}
-use Rattle.guest_sys.specs.Streams.{Streams, Steady, Fails, Tells, HasLeft, WasGiven, Leaves, Gains}
+use Rattle.br_outside.specs.Outside.{StreamView}
+use Rattle.guest_sys.specs.Streams.{Streams, WasGiven, Leaves, Gains}
 use Rattle.guest_sys.specs.Machine.{fed, bare}
-use Rattle.guest_sys.specs.Calls.{asks, spare, Passes}
-use Rattle.guest_sys.proofs.Taken.{steady_same, steady_then, fails_then}
-use Rattle.guest_sys.proofs.Done.{leaves_same, gains_none}
+use Rattle.guest_sys.specs.Calls.{spare, Passes}
+use Rattle.guest_sys.proofs.Taken.{steady_then}
 use Rattle.guest_run.specs.declared.stop.Stop as answer
 use Rattle.guest_run.specs.Edges.{Edge, edge_of}
 use Rattle.guest_run.specs.Run.{run}

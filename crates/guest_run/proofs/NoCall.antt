@@ -1,19 +1,19 @@
 -- Only int 0x80 comes to a system call.
-use Rattle.std.proofs.Common.{◌≡◌, ℕ, ◌+◌, ◌-◌, ◌*◌, ◌^◌, ◌/◌, ◌%◌, ◌==◌, ◌||◌, not, Bool, true, false, cond, List, [], ◌∷◌, get_or, set, Option, Some, None, refl, ap, ◌∙◌}
+use Rattle.std.proofs.Common.{◌≡◌, ℕ, ◌+◌, ◌/◌, ◌==◌, ◌||◌, Bool, true, false, cond, List, set, Option, Some, None, refl}
 use Rattle.br_word.specs.declared.types.Width.{Width}
 use Rattle.br_word.specs.declared.types.Width.TheVariants.{B8, B32}
 use Rattle.br_word.specs.Memory.{Region, load, store}
-use Rattle.br_word.specs.Words.{size_of, bit}
-use Rattle.br_word.specs.State.{Cpu, Flag, CF, PF, ZF, SF, OF, flag_of}
+use Rattle.br_word.specs.Words.{bit}
+use Rattle.br_word.specs.State.{Cpu, flag_of}
 use Rattle.ia_inst.specs.declared.inst.Rm.{Rm}
 use Rattle.ia_inst.specs.declared.inst.Rm.TheVariants.{Reg, Mem}
 use Rattle.ia_inst.specs.declared.inst.Src.{Src}
 use Rattle.ia_inst.specs.declared.inst.Src.TheVariants as src
 use Rattle.ia_inst.specs.declared.inst.Inst.{Inst}
 use Rattle.ia_inst.specs.declared.inst.Inst.TheVariants as inst
-use Rattle.ia_inst.specs.Act.{Act, Load, Store, Ask, Divides, Calls, Ends, Past, To, End, Next, Denied, Divided, Called, perform, or_denied}
+use Rattle.ia_inst.specs.Act.{Act, Load, Store, Ask, Divides, Calls, Ends, Past, To, End, Called, perform, or_denied}
 use Rattle.ia_inst.specs.Wide.{quotient, signed_quotient}
-use Rattle.ia_inst.specs.Meaning.{wrap, of_rm, of_src, to_rm, pushed, with_carry, even_condition, condition, muldiv, divides, pair_of, iterated, is_over, no_changes, meaning}
+use Rattle.ia_inst.specs.Meaning.{wrap, of_rm, of_src, to_rm, with_carry, even_condition, condition, muldiv, divides, pair_of, iterated, is_over, no_changes, meaning}
 use Rattle.guest_run.specs.Guest.{is_trap}
 
 -- no part of the act is a system call

@@ -1,12 +1,12 @@
 -- What a guest does, does not depend on what it has written before.
-use Rattle.std.proofs.Common.{◌≡◌, ℕ, zero, suc, ◌+◌, ◌<◌, ◌≤◌, Bool, true, false, cond, if◌then◌else◌, List, [], ◌∷◌, ◌++◌, Option, Some, None, refl, sym, ◌∙◌, ap, append_assoc, get_or, take, drop, length, map, nat_eq, nat_le, ◌&&◌, ◌-◌, ◌^◌}
+use Rattle.std.proofs.Common.{◌≡◌, ℕ, zero, suc, ◌+◌, Bool, true, false, if◌then◌else◌, List, [], ◌++◌, Option, Some, None, refl, sym, ◌∙◌, ap, append_assoc, get_or, take, drop, length, map, nat_eq, nat_le, ◌&&◌, ◌-◌, ◌^◌}
 use Rattle.std.proofs.lemmas.List.{append-nil}
 use Rattle.br_word.specs.Words.{bit}
 use Rattle.br_word.specs.State.{State, Stop, Running, Exited, Faulted}
 use Rattle.ia_inst.specs.Act.{End, Next, Denied, Divided, Called, perform}
 use Rattle.br_word.specs.Memory.{Region, resized}
 use Rattle.ia_inst.specs.System.{Way, On, Bad, or_bad, answers, buffer, filled, call_exit, call_read, call_write, call_brk, system}
-use Rattle.ia_inst.specs.Step.{Found, NoCode, NoInst, There, found, act_of, way_of, way_at, step_way, settled, unless_stopped, asked_at, step}
+use Rattle.ia_inst.specs.Step.{Found, NoCode, NoInst, There, found, act_of, way_of, way_at, settled, unless_stopped, asked_at, step}
 use Rattle.ia_meaning.specs.Effect.{some_unmarked}
 use Rattle.guest_sys.specs.Calls.{spare}
 use Rattle.guest_sys.specs.Machine.{fed, bare}

@@ -1,22 +1,20 @@
 -- A step of the whole guest.
-use Rattle.std.proofs.Common.{◌≡◌, ℕ, ◌+◌, ◌<◌, ◌≤◌, Bool, true, false, List, [], Option, Some, None, IfSome, Result, Ok, Err, refl, sym, ◌∙◌, ap, subst, arith, IsTrue}
-use Rattle.br_word.specs.Words.{bit}
+use Rattle.std.proofs.Common.{◌≡◌, ℕ, ◌+◌, Bool, true, false, Option, Ok, Err, refl, sym, ◌∙◌, ap, subst}
 use Rattle.br_word.specs.State.{State, Stop, Running, Exited, Faulted}
-use Rattle.ia_inst.specs.System.{Way, On, Bad}
-use Rattle.ia_inst.specs.Step.{Found, NoCode, NoInst, There, found, way_at, step_way, settled, step, asked_at}
+use Rattle.ia_inst.specs.Step.{Found, NoCode, NoInst, There, found, way_at, step_way, step}
 use Rattle.guest_mem.specs.View.{MemoryView}
 use Rattle.ia_meaning.specs.declared.cpu.Cpu.{Cpu}
 use Rattle.guest_sys.specs.declared.answers.SysError.{SysError}
-use Rattle.guest_sys.specs.Streams.{Streams, Tells}
-use Rattle.guest_sys.specs.Machine.{Machine, state_of, fed, bare}
+use Rattle.guest_sys.specs.Streams.{Streams}
+use Rattle.guest_sys.specs.Machine.{state_of, fed, bare}
 use Rattle.guest_sys.proofs.Done.{had, told_had}
 use Rattle.guest_run.specs.declared.stop.Stop as answer
 use Rattle.guest_run.specs.declared.stop.Stop.TheVariants as answers
 use Rattle.guest_run.specs.declared.advance.Advanced.{Advanced}
-use Rattle.guest_run.specs.Edges.{Edge, edge_by, edge_at, edge_of, is_transfer}
-use Rattle.guest_run.specs.Guest.{GuestView, view_of, stop_of, answer_of, first_edge, reads_undefined, stepped, StepDone, StepFailed, NoStep, StepGives, Steps}
+use Rattle.guest_run.specs.Edges.{Edge, edge_by, edge_at, is_transfer}
+use Rattle.guest_run.specs.Guest.{GuestView, view_of, stop_of, answer_of, first_edge, stepped, Steps}
 use Rattle.guest_run.proofs.Ways.{way_done, few_ahead}
-use Rattle.guest_run.specs.Advance.{Expected, Advances, AdvanceFails, Advance, expected, edge_by_found}
+use Rattle.guest_run.specs.Advance.{Advance, edge_by_found}
 
 stop_again : (s : Stop) → stop_of (answer_of s) ≡ s
 stop_again Running = refl

@@ -1,5 +1,5 @@
 -- A system call as a step.
-use Rattle.std.proofs.Common.{◌≡◌, ℕ, ◌+◌, ◌<◌, ◌≤◌, Bool, true, false, List, [], get_or, Option, Some, None, Result, Ok, Err, refl, sym, ◌∙◌, ap, subst, arith, IsTrue, ◌⊎◌, inl, inr}
+use Rattle.std.proofs.Common.{◌≡◌, ℕ, true, List, [], None, Ok, Err, refl, sym, ◌∙◌, ap, subst, arith, IsTrue, ◌⊎◌, inl, inr}
 use Rattle.br_word.specs.declared.types.GuestFault.{GuestFault}
 use Rattle.br_word.specs.State.{State, Stop, Running, Exited, Faulted}
 use Rattle.ia_inst.specs.System.{Way, On, Bad, system}
@@ -12,16 +12,15 @@ use Rattle.guest_sys.specs.declared.answers.Called.TheVariants.{Goes, Exit, Faul
 use Rattle.guest_sys.specs.declared.answers.SysError.{SysError}
 use Rattle.guest_sys.specs.declared.answers.SysError.TheVariants.{Input, Out, Report, Memory}
 use Rattle.guest_sys.specs.Streams.{Streams}
-use Rattle.guest_sys.specs.Machine.{Machine, machine, state_of, fed, bare}
+use Rattle.guest_sys.specs.Machine.{machine, state_of, fed}
 use Rattle.guest_sys.specs.Calls.{asks, takes_memory, after_call, spare, Passes, Does, InputFails, SinkFails, MemoryFails, FailsAt, CallGives, Calls}
 use Rattle.guest_sys.specs.Calls as calls
 use Rattle.guest_run.specs.declared.stop.Stop as answer
 use Rattle.guest_run.specs.declared.stop.Stop.TheVariants as answers
 use Rattle.guest_run.specs.declared.advance.Advanced.{Advanced}
-use Rattle.guest_run.specs.Edges.{Edge}
 use Rattle.guest_run.specs.Guest.{answer_of}
-use Rattle.guest_run.specs.Advance.{Expected, Advances, AdvanceFails, AdvanceGives, of_call, Trap}
-use Rattle.guest_run.proofs.Ways.{system_eip, IsDone, system_done, IsSilent, system_silent, asks_read}
+use Rattle.guest_run.specs.Advance.{Expected, Advances, AdvanceFails, Trap}
+use Rattle.guest_run.proofs.Ways.{system_eip, IsDone, system_done, system_silent, asks_read}
 
 -- the answer of a call, as the stop of a run
 abbrev pub stop_as : Called → answer.Stop

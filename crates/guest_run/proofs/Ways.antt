@@ -1,6 +1,5 @@
 -- System calls from states that differ in eip, and how they leave the guest.
-use Rattle.std.proofs.Common.{◌≡◌, ℕ, ◌+◌, ◌-◌, ◌%◌, ◌^◌, ◌<◌, ◌≤◌, Bool, true, false, cond, nat_eq, ◌&&◌, ◌||◌, if◌then◌else◌, List, [], ◌∷◌, ◌++◌, get_or, take, drop, length, map, nat_le, Option, Some, None, Result, Ok, Err, refl, sym, ◌∙◌, ap, subst, arith, IsTrue, ◌⊎◌, inl, inr}
-use Rattle.br_word.specs.declared.types.GuestFault.TheVariants.{Access}
+use Rattle.std.proofs.Common.{◌≡◌, ℕ, ◌+◌, ◌-◌, ◌%◌, ◌^◌, ◌<◌, ◌≤◌, Bool, true, false, nat_eq, ◌&&◌, ◌||◌, if◌then◌else◌, List, ◌++◌, get_or, take, drop, length, map, nat_le, Option, Some, None, refl, ◌∙◌, ap, arith, IsTrue, ◌⊎◌, inl, inr}
 use Rattle.br_word.specs.State.{State, Stop, Running, Exited, Faulted}
 use Rattle.br_word.specs.Memory.{Region, resized}
 use Rattle.ia_inst.specs.System.{Way, On, Bad, or_bad, answers, buffer, filled, call_exit, call_read, call_write, call_brk, system}

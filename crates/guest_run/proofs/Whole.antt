@@ -1,21 +1,20 @@
 -- A whole run, whatever it comes to.
-use Rattle.std.proofs.Common.{◌≡◌, ℕ, zero, suc, ◌+◌, ◌<◌, ◌≤◌, Bool, true, false, List, [], ◌∷◌, ◌++◌, length, take, drop, Option, Some, None, IfSome, Result, Ok, Err, refl, sym, ◌∙◌, ap, subst, arith, IsTrue, option_map, length-append}
-use Rattle.std.proofs.lemmas.List.{append-nil}
+use Rattle.std.proofs.Common.{◌≡◌, ℕ, suc, ◌+◌, ◌≤◌, true, false, List, [], ◌++◌, length, take, drop, Option, Some, None, IfSome, Result, Ok, Err, refl, sym, ◌∙◌, ap, subst, arith, length-append}
 use Rattle.std.proofs.Math.Seq.{take-append-add}
 use Rattle.br_word.specs.State.{State, Stop, Running, Exited, Faulted}
 use Rattle.ia_inst.specs.Step.{step}
 use Rattle.br_outside.specs.Outside.{StreamView}
 use Rattle.guest_sys.specs.declared.answers.SysError.{SysError}
 use Rattle.guest_sys.specs.declared.answers.SysError.TheVariants.{Input, Out, Report, Memory}
-use Rattle.guest_sys.specs.Streams.{Streams, Steady, Fails, Tells, HasLeft, WasGiven, Leaves, Gains}
+use Rattle.guest_sys.specs.Streams.{Streams, Steady, Tells, WasGiven, Leaves, Gains}
 use Rattle.guest_sys.specs.Machine.{fed, bare}
-use Rattle.guest_sys.specs.Calls.{spare, Passes, InputFails, SinkFails, Unwritten, MemoryFails, FailsAt}
+use Rattle.guest_sys.specs.Calls.{spare, Passes, Unwritten, FailsAt}
 use Rattle.guest_sys.proofs.Taken.{steady_same, steady_then, fails_then}
 use Rattle.guest_sys.proofs.Done.{leaves_same, gains_none}
 use Rattle.guest_run.specs.declared.stop.Stop as answer
 use Rattle.guest_run.specs.declared.stop.Stop.TheVariants as answers
 use Rattle.guest_run.specs.Run.{run}
-use Rattle.guest_run.specs.Guest.{GuestView, stop_of, asks_next, ahead, stepped, answer_of, StepDone, StepFailed, Steps, RunDone, PartGiven, Unchanged, RunFailsAt, RunFailed, RunGives, AllSteady, OneFails, RunEnded, RunBroken, EndGives, Runs, while_running, steps_taken, undefined_taken, edge_after}
+use Rattle.guest_run.specs.Guest.{GuestView, stop_of, asks_next, ahead, stepped, answer_of, StepDone, Steps, PartGiven, Unchanged, RunFailsAt, RunFailed, RunGives, AllSteady, OneFails, EndGives, Runs}
 use Rattle.guest_run.proofs.Shown.{shown, shown_bare, run_shown, step_shown}
 use Rattle.guest_run.proofs.Composed.{left_then, leaves_then, given_then, gains_then, steady_of, run_none, steps_none, undefined_none, edge_none, run_more}
 

@@ -1,22 +1,20 @@
 -- The parts of a step, on the processor and the memory alone.
 use Rattle.std.specs.Prelude.{◌≡◌, ℕ, ◌+◌, ◌≤◌, Bool, true, false, IsTrue, List, [], Option, Some, None, Result, Ok, Err}
 use Rattle.br_word.specs.Words.{bit}
-use Rattle.br_word.specs.State.{State, Stop, Running}
-use Rattle.ia_inst.specs.declared.inst.Inst.{Inst}
+use Rattle.br_word.specs.State.{State, Running}
 use Rattle.ia_inst.specs.Canonical.{valid_of}
-use Rattle.ia_inst.specs.System.{Way, On, Bad, system}
-use Rattle.ia_inst.specs.Step.{Found, NoCode, NoInst, There, found, way_at, settled, step, asked_at}
-use Rattle.ia_meaning.specs.declared.cpu.Cpu.{Cpu}
+use Rattle.ia_inst.specs.System.{system}
+use Rattle.ia_inst.specs.Step.{Found, NoCode, NoInst, There, way_at, settled, asked_at}
 use Rattle.ia_meaning.specs.Effect.{some_unmarked}
 use Rattle.guest_sys.specs.declared.answers.SysError.{SysError}
 use Rattle.guest_sys.specs.Streams.{Tells}
 use Rattle.guest_sys.specs.Machine.{Machine, state_of, fed, bare}
-use Rattle.guest_sys.specs.Calls.{asks, takes_memory, spare, Passes, FailsAt}
+use Rattle.guest_sys.specs.Calls.{takes_memory, spare, Passes, FailsAt}
 use Rattle.guest_run.specs.declared.advance.Advanced.{Advanced}
 use Rattle.guest_run.specs.declared.advance.Code.{Code}
 use Rattle.guest_run.specs.declared.advance.Code.TheVariants as code
-use Rattle.guest_run.specs.Edges.{Edge, edge_by, edge_at, is_transfer}
-use Rattle.guest_run.specs.Guest.{first_edge, is_trap, traps_at, asks_by, answer_of}
+use Rattle.guest_run.specs.Edges.{Edge, edge_by, is_transfer}
+use Rattle.guest_run.specs.Guest.{first_edge, traps_at, asks_by, answer_of}
 
 -- what stands at an address, as the code has it
 abbrev pub IsFound : Found → Code → Type 0

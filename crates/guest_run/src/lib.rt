@@ -7,7 +7,6 @@ mod guest;
 mod opening;
 mod stop;
 
-pub use advance::{Advanced, Code};
 pub use arguments::args_fit;
 pub use guest::Guest;
 pub use guest_sys::SysError;

@@ -1,6 +1,6 @@
 -- Accesses of fewer and of more bytes at one address.
-use Rattle.std.proofs.Common.{◌≡◌, ◌≢◌, ℕ, suc, ◌+◌, ◌-◌, ◌<◌, ◌≤◌, Bool, true, false, cond, nat_le, ◌&&◌, if◌then◌else◌, List, [], ◌∷◌, ◌++◌, length, take, drop, Option, Some, None, option_map, refl, sym, ◌∙◌, ap, subst, arith, IsSome, IsTrue}
-use Rattle.br_word.specs.Memory.{Region, Use, Reads, Writes, Runs, allows, covers, bytes_at, written, put_over}
+use Rattle.std.proofs.Common.{◌≡◌, ℕ, ◌≤◌, Bool, true, false, ◌&&◌, if◌then◌else◌, List, [], ◌∷◌, length, Option, Some, None, option_map, refl, arith}
+use Rattle.br_word.specs.Memory.{Region, Use, Writes, allows, covers, bytes_at, written}
 use Rattle.std.proofs.lemmas.Bool.Decides.{nat_tests}
 
 -- what covers more covers fewer

@@ -1,11 +1,11 @@
 -- What the calls come to, by the definition of each.
-use Rattle.std.proofs.Common.{◌≡◌, ◌≢◌, ℕ, suc, ◌+◌, ◌-◌, ◌%◌, ◌^◌, ◌<◌, ◌≤◌, Bool, true, false, cond, nat_eq, nat_le, ◌&&◌, ◌||◌, if◌then◌else◌, List, [], ◌∷◌, ◌++◌, length, take, drop, get_or, set, map, Option, Some, None, IfSome, IsSome, option_map, Result, Ok, Err, refl, sym, ◌∙◌, ap, subst, arith, IsTrue, min, ◌⊎◌, inl, inr}
+use Rattle.std.proofs.Common.{◌≡◌, ℕ, ◌-◌, ◌%◌, ◌^◌, ◌<◌, ◌≤◌, Bool, true, false, nat_eq, if◌then◌else◌, List, [], ◌++◌, length, take, drop, get_or, map, Option, Some, None, IfSome, IsSome, option_map, Result, Ok, Err, refl, sym, ◌∙◌, ap, subst, arith, IsTrue, inl, inr}
 use Rattle.std.proofs.lemmas.Bool.Decides.{nat_tests, leb_tells}
-use Rattle.std.proofs.lemmas.List.{append-nil, take_all, take-take, length-take, length-take-le}
+use Rattle.std.proofs.lemmas.List.{append-nil, take_all, length-take, length-take-le}
 use Rattle.br_word.specs.declared.types.GuestFault.TheVariants.{Access}
-use Rattle.br_word.specs.Memory.{Region, Use, Reads, Writes, bytes_at, written, resized}
-use Rattle.br_word.specs.State.{State, Stop, Running, Exited, Faulted}
-use Rattle.ia_inst.specs.System.{Way, On, Bad, system, answers, buffer, filled, call_exit, call_read, call_write, call_brk}
+use Rattle.br_word.specs.Memory.{Region, Writes, bytes_at, resized}
+use Rattle.br_word.specs.State.{State, Running, Exited, Faulted}
+use Rattle.ia_inst.specs.System.{On, system, answers, filled, call_brk}
 use Rattle.ia_inst.specs.Step.{settled}
 use Rattle.br_outside.specs.Outside.{StreamView}
 use Rattle.guest_mem.specs.View.{MemoryView, with_break, in_reach}
@@ -14,14 +14,12 @@ use Rattle.guest_sys.specs.declared.answers.Called.{Called}
 use Rattle.guest_sys.specs.declared.answers.Called.TheVariants.{Goes, Exit, Fault}
 use Rattle.guest_sys.specs.declared.answers.SysError.{SysError}
 use Rattle.guest_sys.specs.declared.answers.SysError.TheVariants.{Input, Out, Report, Memory}
-use Rattle.br_outside.specs.declared.errors.SinkError.{SinkError}
-use Rattle.br_outside.specs.declared.errors.SinkError.TheVariants as sink_errors
-use Rattle.guest_sys.specs.Streams.{Streams, Steady, Fails, Tells, HasLeft, WasGiven, Leaves, Gains}
+use Rattle.guest_sys.specs.Streams.{Tells, Leaves, Gains}
 use Rattle.guest_sys.specs.Machine.{Machine, machine, state_of, fed, bare}
-use Rattle.guest_sys.specs.Calls.{asks, takes_memory, after_call, answer_of, spare, Passes, Does, InputFails, SinkFails, Unwritten, MemoryFails, FailsAt, CallGives, Calls}
-use Rattle.guest_sys.specs.Parts.{IsWanted, Puts, Takes, TakesAll, TakesSome, TakeGives, with_eax, WritesBuffer}
+use Rattle.guest_sys.specs.Calls.{asks, takes_memory, after_call, answer_of, Unwritten, CallGives, Calls}
+use Rattle.guest_sys.specs.Parts.{IsWanted, Takes, with_eax}
 use Rattle.guest_sys.proofs.Access.{denied_more, written_none, none_written}
-use Rattle.guest_sys.proofs.Puts.{not_zero, filled_some}
+use Rattle.guest_sys.proofs.Puts.{filled_some}
 use Rattle.guest_sys.proofs.Taken.{steady_same}
 
 -- the state in which a call begins

@@ -1,11 +1,11 @@
 -- Bytes put into memory, and read from it.
-use Rattle.std.proofs.Common.{◌≡◌, ◌≢◌, ℕ, suc, ◌+◌, ◌-◌, ◌<◌, ◌≤◌, Bool, true, false, cond, nat_eq, nat_le, if◌then◌else◌, List, [], ◌∷◌, ◌++◌, length, take, drop, Option, Some, None, option_map, is_some, refl, sym, ◌∙◌, ap, subst, ◌==◌, arith, IsSome, IsTrue}
+use Rattle.std.proofs.Common.{◌≡◌, ◌≢◌, ℕ, ◌+◌, ◌<◌, ◌≤◌, true, false, nat_eq, List, length, take, Option, Some, None, option_map, is_some, refl, subst, ◌==◌, arith}
 use Rattle.std.proofs.lemmas.Bool.Decides.{nat_tests}
-use Rattle.br_word.specs.Memory.{Region, Use, Reads, Writes, bytes_at, written}
+use Rattle.br_word.specs.Memory.{Region, Reads, Writes, bytes_at, written}
 use Rattle.ia_inst.specs.System.{buffer, filled}
 use Rattle.guest_mem.specs.View.{MemoryView}
 use Rattle.guest_sys.specs.Parts.{IsWanted, Puts}
-use Rattle.guest_sys.proofs.Access.{denied_more, written_none, none_written}
+use Rattle.guest_sys.proofs.Access.{denied_more, written_none}
 
 pub none_is : {A : Type 0} (o : Option A) → is_some o ≡ false → o ≡ None
 none_is None h = refl

@@ -1,13 +1,12 @@
 -- Bytes taken of a source, a piece after another.
-use Rattle.std.proofs.Common.{◌≡◌, ◌≢◌, ℕ, suc, ◌+◌, ◌-◌, ◌<◌, ◌≤◌, Bool, true, false, cond, nat_lt, List, [], ◌∷◌, ◌++◌, length, take, drop, Option, Some, None, IfSome, Result, Ok, Err, refl, sym, ◌∙◌, ap, subst, arith, IsTrue, min, append_assoc, length-append, length-take, length-drop, ◌⊎◌, inl, inr}
+use Rattle.std.proofs.Common.{◌≡◌, ℕ, ◌+◌, ◌<◌, ◌≤◌, false, nat_lt, List, [], ◌++◌, length, take, drop, Option, Some, None, IfSome, Ok, Err, refl, sym, ◌∙◌, ap, subst, arith, IsTrue, append_assoc, length-append, ◌⊎◌, inl, inr}
 use Rattle.std.proofs.lemmas.List.{drop-drop, take_all, take_at, length-take-le, take-append-le, append-nil}
 use Rattle.std.proofs.lemmas.Bool.Decides.{nat_tests}
-use Rattle.std.proofs.lemmas.Grind.{common_steps}
-use Rattle.br_outside.specs.Outside.{StreamView, Took, Rose}
+use Rattle.br_outside.specs.Outside.{StreamView, Took}
 use Rattle.guest_sys.specs.declared.answers.SysError.{SysError}
 use Rattle.guest_sys.specs.declared.answers.SysError.TheVariants.{Input, Out, Report, Memory}
-use Rattle.guest_sys.specs.Streams.{Steady, Fails, Tells, HasLeft, Leaves}
-use Rattle.guest_sys.specs.Parts.{TakesPiece, HasTakenMore, AddsPiece, TakesAll, TakesSome, Takes, TakeGives}
+use Rattle.guest_sys.specs.Streams.{Steady, Fails}
+use Rattle.guest_sys.specs.Parts.{TakesPiece, HasTakenMore, AddsPiece, Takes}
 
 -- these bytes were taken
 pub record HasTaken (bytes : List ℕ) (old new : StreamView) : Type 0 where

@@ -1,19 +1,18 @@
 -- What a write comes to, by its definition.
-use Rattle.std.proofs.Common.{◌≡◌, ℕ, ◌<◌, ◌≤◌, ◌||◌, Bool, true, false, nat_eq, List, [], ◌∷◌, ◌++◌, get_or, Option, Some, None, Result, Ok, Err, refl, sym, ◌∙◌, ap, subst, arith}
+use Rattle.std.proofs.Common.{◌≡◌, ℕ, List, [], get_or, Option, Some, None, Ok, Err, refl, sym, subst, arith}
 use Rattle.br_word.specs.declared.types.GuestFault.TheVariants.{Access}
-use Rattle.br_word.specs.State.{State, Stop, Running, Exited, Faulted}
-use Rattle.ia_inst.specs.System.{Way, On, Bad, system, answers, buffer, call_write}
+use Rattle.br_word.specs.State.{State, Faulted}
+use Rattle.ia_inst.specs.System.{system, answers, buffer}
 use Rattle.br_outside.specs.Outside.{StreamView}
 use Rattle.guest_mem.specs.View.{MemoryView}
 use Rattle.ia_meaning.specs.declared.cpu.Cpu.{Cpu}
 use Rattle.guest_sys.specs.declared.answers.Called.{Called}
-use Rattle.guest_sys.specs.declared.answers.Called.TheVariants.{Goes, Exit, Fault}
-use Rattle.guest_sys.specs.declared.answers.SysError.TheVariants.{Input, Out, Report, Memory}
+use Rattle.guest_sys.specs.declared.answers.Called.TheVariants.{Fault}
+use Rattle.guest_sys.specs.declared.answers.SysError.TheVariants.{Out, Report, Memory}
 use Rattle.br_outside.specs.declared.errors.SinkError.TheVariants as sink_errors
-use Rattle.guest_sys.specs.Streams.{Gains}
-use Rattle.guest_sys.specs.Machine.{Machine, machine}
-use Rattle.guest_sys.specs.Calls.{after_call, Does, SinkFails, Unwritten, MemoryFails, Calls}
-use Rattle.guest_sys.specs.Parts.{with_eax, WritesBuffer}
+use Rattle.guest_sys.specs.Machine.{machine}
+use Rattle.guest_sys.specs.Calls.{after_call, Unwritten, Calls}
+use Rattle.guest_sys.specs.Parts.{WritesBuffer}
 use Rattle.guest_sys.proofs.Done.{begin, had, told_had, leaves_same, gains_none, unwritten_same, calls_by, quiet, answers_as}
 
 -- the states after a write of some bytes

@@ -8,11 +8,11 @@ use Rattle.br_word.specs.declared.types.GuestFault.TheVariants.{Access}
 use Rattle.guest_sys.specs.declared.answers.Called.{Called}
 use Rattle.guest_sys.specs.declared.answers.Called.TheVariants.{Goes, Fault}
 use Rattle.guest_sys.specs.declared.answers.SysError.{SysError}
-use Rattle.guest_sys.specs.declared.answers.SysError.TheVariants.{Input, Out, Report, Memory}
+use Rattle.guest_sys.specs.declared.answers.SysError.TheVariants.{Input, Memory}
 use Rattle.br_outside.specs.declared.errors.SinkError.{SinkError}
 use Rattle.br_outside.specs.declared.errors.SinkError.TheVariants as sink_errors
 use Rattle.guest_sys.specs.Calls.{SinkFails, Unwritten}
-use Rattle.guest_sys.specs.Streams.{Steady, Fails, Tells, HasLeft, WasGiven, Leaves, Gains}
+use Rattle.guest_sys.specs.Streams.{Steady, Fails, Tells, HasLeft, Leaves, Gains}
 
 -- a piece of what a source has left was taken; an empty one means that nothing is left
 abbrev pub TakesPiece : List ℕ → StreamView → StreamView → Type 0

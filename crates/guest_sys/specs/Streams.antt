@@ -1,5 +1,5 @@
 -- The input of a guest and its two outputs, as they are seen before and after calls.
-use Rattle.std.specs.Prelude.{◌≡◌, ℕ, ◌≤◌, List, [], ◌++◌, Option, Some, None, IfSome, option_map, IsTrue}
+use Rattle.std.specs.Prelude.{◌≡◌, ℕ, ◌≤◌, List, [], ◌++◌, Some, IfSome, option_map, IsTrue}
 use Rattle.br_outside.specs.Outside.{StreamView, Rose}
 
 pub record Streams : Type 0 where

@@ -1,6 +1,6 @@
 -- Rotations, and signed numbers cast to words.
-use Rattle.std.proofs.Common.{◌≡◌, ℕ, zero, suc, ◌+◌, ◌-◌, ◌*◌, ◌/◌, ◌%◌, ◌^◌, ◌<◌, ◌≤◌, Bool, true, false, cond, sym, ap, subst, ◌∙◌, refl, arith}
-use Rattle.std.specs.Prelude.{ℤ, pos, negsuc, ◌*ℤ◌, nat_lt, nat_le, bit_or, FitsSigned}
+use Rattle.std.proofs.Common.{◌≡◌, ℕ, zero, suc, ◌+◌, ◌-◌, ◌*◌, ◌/◌, ◌%◌, ◌^◌, ◌<◌, ◌≤◌, false, cond, sym, ap, subst, ◌∙◌, refl, arith}
+use Rattle.std.specs.Prelude.{ℤ, pos, negsuc, ◌*ℤ◌, bit_or, FitsSigned}
 use Rattle.std.specs.Int.{w32, w64, cast_unsigned, cast_signed, rotate_left, rotate_right}
 use Rattle.std.proofs.Math.Nat.{mod-eq_of_lt, add-mul, mul_assoc, add_comm, mul-lt-mul_of_pos_right}
 use Rattle.std.proofs.lemmas.Nat.{pow-add, or_shifted, shr_below, or_comm, mod-mul-add, div-add-mod', mod_below, pow_pos}
@@ -8,7 +8,7 @@ use Rattle.std.specs.Prelude.{unsigned_abs}
 use Rattle.std.proofs.lemmas.Int.{to_z-of_z, of_z-to_z, fits_signed_mul, rem_below, fits_signed_from_abs}
 use Rattle.ia_meaning.proofs.Signs.{signed_cast}
 use Rattle.br_word.specs.Words.{signed, wrap}
-use Rattle.std.specs.Prelude.{◌==◌, ◌||◌, int_div, int_rem, Option, Some, None}
+use Rattle.std.specs.Prelude.{◌==◌, ◌||◌, int_div, int_rem, Some, None}
 use Rattle.std.specs.Int.Signed.{lt_z}
 use Rattle.std.proofs.lemmas.Int.{ints}
 use Rattle.std.proofs.lemmas.Bool.Decides.{nat_tests}

@@ -1,13 +1,12 @@
 -- What a step does to the machine's words, by what the instruction's act comes to.
-use Rattle.std.specs.Prelude.{◌≡◌, ℕ, ◌+◌, Bool, true, false, not, ◌||◌, List, [], ◌∷◌, Option, Some, None, Result, Ok, Err}
+use Rattle.std.specs.Prelude.{◌≡◌, ℕ, ◌+◌, Bool, false, not, ◌||◌, List, [], ◌∷◌, Option, Some, None, Result, Ok, Err}
 use Rattle.br_word.specs.declared.types.Flags.{Flags}
-use Rattle.br_word.specs.declared.types.GuestFault.{GuestFault}
 use Rattle.br_word.specs.declared.types.GuestFault.TheVariants.{Access, Divide}
 use Rattle.br_word.specs.Memory.{Region}
 use Rattle.br_word.specs.State as state
 use Rattle.br_word.specs.State.{Flag, flag_of}
 use Rattle.ia_inst.specs.declared.inst.Inst.{Inst}
-use Rattle.ia_inst.specs.Act.{Place, Changes, Act, End, Next, Denied, Divided, Called, perform, flags_after, marks_after}
+use Rattle.ia_inst.specs.Act.{Changes, Act, End, Next, Denied, Divided, Called, perform, flags_after, marks_after}
 use Rattle.ia_inst.specs.Meaning.{wrap, set_if, meaning}
 use Rattle.ia_inst.specs.Step.{place_of}
 use Rattle.guest_mem.specs.View.{MemoryView}

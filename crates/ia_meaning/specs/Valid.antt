@@ -1,5 +1,5 @@
 -- Sources whose parts are in range.
-use Rattle.std.specs.Prelude.{ℕ, Bool}
+use Rattle.std.specs.Prelude.{Bool}
 use Rattle.br_word.specs.declared.types.Width.{Width}
 use Rattle.ia_inst.specs.declared.inst.Src.{Src}
 use Rattle.ia_inst.specs.declared.inst.Src.TheVariants.{Rm, Imm}

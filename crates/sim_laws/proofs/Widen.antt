@@ -1,19 +1,17 @@
 -- A guest with further regions below an address, and with other values in the flags that are not
 -- defined, does the same.
-use Rattle.std.proofs.Common.{◌≡◌, ℕ, zero, suc, ◌+◌, ◌-◌, ◌%◌, ◌^◌, ◌<◌, ◌≤◌, Bool, true, false, cond, ◌&&◌, List, [], ◌∷◌, ◌++◌, length, take, drop, map, get_or, set, Option, Some, None, ◌⊎◌, inl, inr, ⊎_elim, refl, sym, ap, ◌∙◌, subst, arith}
+use Rattle.std.proofs.Common.{◌≡◌, ℕ, zero, suc, ◌+◌, ◌-◌, ◌%◌, ◌^◌, ◌<◌, ◌≤◌, Bool, true, false, ◌&&◌, List, [], ◌∷◌, ◌++◌, length, take, drop, map, get_or, Option, Some, None, ◌⊎◌, inl, inr, ⊎_elim, refl, sym, ap, ◌∙◌, subst, arith}
 use Rattle.std.specs.Prelude.{option_map, nat_le, nat_eq, if◌then◌else◌}
 use Rattle.std.proofs.lemmas.Bool.{lt-leb, leb-true, ne_eqb}
 use Rattle.std.proofs.Math.Bool.{and-false}
 use Rattle.std.proofs.lemmas.Option.{none-some, same_Some}
 use Rattle.br_word.specs.declared.types.Flags.{Flags}
-use Rattle.br_word.specs.declared.types.GuestFault.{GuestFault}
-use Rattle.br_word.specs.declared.types.GuestFault.TheVariants.{Access, Illegal}
 use Rattle.br_word.specs.Memory.{Region, Use, Reads, Writes, Runs, allows, covers, bytes_at, put_over, written, number_of, bytes_of, zeros, load, store, resized}
 use Rattle.br_word.specs.State.{Cpu, State, Stop, Running, Exited, Faulted, Flag, CF, PF, ZF, SF, OF, flag_of}
-use Rattle.ia_inst.specs.Act.{Place, Past, Again, To, Act, Load, Store, Ask, Divides, Calls, Ends, Change, Keeps, Becomes, IsLeft, Changes, flag_after, mark_after, choice_bit, flags_after, marks_after, End, Next, Denied, Divided, Called, or_denied, perform, or_none, asked}
-use Rattle.ia_inst.specs.Meaning.{wrap, meaning}
-use Rattle.ia_inst.specs.System.{answers, buffer, filled, call_exit, call_read, call_write, call_brk, system, Way, On, Bad, or_bad}
-use Rattle.ia_inst.specs.Step.{Found, NoCode, NoInst, There, found_in, found, act_of, place_of, way_of, way_at, step_way, asked_at, settled, unless_stopped, step, AllMarked, NoFault, IsWellDefined}
+use Rattle.ia_inst.specs.Act.{Act, Load, Store, Ask, Divides, Calls, Ends, Change, Keeps, Becomes, IsLeft, Changes, flag_after, mark_after, flags_after, marks_after, End, Next, Denied, Divided, Called, or_denied, perform, or_none, asked}
+use Rattle.ia_inst.specs.Meaning.{wrap}
+use Rattle.ia_inst.specs.System.{answers, buffer, filled, system, Way, On, Bad, or_bad}
+use Rattle.ia_inst.specs.Step.{Found, NoCode, NoInst, There, found_in, found, act_of, way_of, way_at, step_way, asked_at, settled, unless_stopped, step, AllMarked, NoFault, IsWellDefined}
 use Rattle.guest_run.specs.Run.{first_choice, run, WellDefined}
 
 -- each region ends below

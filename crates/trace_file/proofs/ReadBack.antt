@@ -1,5 +1,5 @@
 -- What is written is read again.
-use Rattle.std.proofs.Common.{◌≡◌, ℕ, zero, suc, ◌+◌, ◌*◌, ◌^◌, ◌<◌, ◌≤◌, Bool, true, false, List, [], ◌∷◌, ◌++◌, length, take, drop, get_or, Option, Some, None, refl, sym, ap, subst, ◌∙◌, arith, append_assoc, length-append}
+use Rattle.std.proofs.Common.{◌≡◌, ℕ, ◌+◌, ◌*◌, ◌^◌, ◌<◌, ◌≤◌, true, List, [], ◌∷◌, ◌++◌, length, drop, get_or, None, refl, sym, ap, subst, ◌∙◌, arith, append_assoc, length-append}
 use Rattle.std.specs.Prelude.{Ok, All, nat_lt, not}
 use Rattle.std.specs.Str.{bytes_eq}
 use Rattle.std.proofs.lemmas.Bool.{le-ltb}
@@ -9,7 +9,7 @@ use Rattle.std.proofs.lemmas.Slice.Eq.{bytes_eq-Decides}
 use Rattle.byteorder.specs.Endian.{little_number}
 use Rattle.byteorder.specs.Numbers.{little_number-reads_back, length-bytes_low_first}
 use Rattle.trace_file.specs.Edges.{Edge, ascends}
-use Rattle.trace_file.specs.Trace.{magic, word, word_at, records, record_bytes, all_record_bytes, stored_digest, count_of, records_of, end_of, first_difference, disorder, place_if, refuse, late_refusal, refusal, trace, trace_bytes, AreWords, IsWritable, ReadsBack}
+use Rattle.trace_file.specs.Trace.{magic, word, word_at, records, record_bytes, all_record_bytes, stored_digest, count_of, records_of, end_of, first_difference, disorder, refusal, trace, trace_bytes, AreWords, IsWritable, ReadsBack}
 use Rattle.trace_file.proofs.Sorted.{edge}
 use Rattle.trace_file.proofs.Records.{in_order_then}
 use Rattle.trace_file.proofs.Result.{accepted_is, pass, no_place}

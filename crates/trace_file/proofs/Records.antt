@@ -1,11 +1,11 @@
 -- The records of a file, and the bytes before them.
-use Rattle.std.proofs.Common.{◌≡◌, ◌≢◌, ℕ, zero, suc, ◌+◌, ◌*◌, ◌<◌, ◌≤◌, Bool, true, false, List, [], ◌∷◌, ◌++◌, length, take, drop, get_or, ◌⊎◌, inl, inr, Option, Some, None, refl, sym, ap, ◌∙◌, arith}
-use Rattle.std.specs.Prelude.{if◌then◌else◌, nat_eq, ◌&&◌}
+use Rattle.std.proofs.Common.{◌≡◌, ◌≢◌, ℕ, zero, suc, ◌+◌, ◌*◌, ◌<◌, ◌≤◌, Bool, true, false, List, [], ◌∷◌, ◌++◌, length, take, drop, get_or, Option, Some, None, refl, sym, ap, ◌∙◌, arith}
+use Rattle.std.specs.Prelude.{if◌then◌else◌, ◌&&◌}
 use Rattle.std.proofs.lemmas.Bool.{eq-eqb, ne_eqb}
 use Rattle.std.proofs.lemmas.List.{drop_more, drop_all, take_more, take_all}
 use Rattle.std.proofs.lemmas.Option.{none-some}
 use Rattle.trace_file.specs.Edges.{Edge, before, ascends_after, ascends}
-use Rattle.trace_file.specs.Trace.{word_at, record_at, records, records_of, count_of, first_difference, disorder_after, disorder}
+use Rattle.trace_file.specs.Trace.{word_at, record_at, records, first_difference, disorder_after, disorder}
 use Rattle.trace_file.proofs.Sorted.{edge, and_both}
 
 pub length_records : (n at : ℕ) (bytes : List ℕ) → length (records n at bytes) ≡ n

@@ -1,12 +1,11 @@
 -- What the reader answers, from its checks.
-use Rattle.std.proofs.Common.{◌≡◌, ℕ, ◌+◌, ◌*◌, ◌<◌, ◌≤◌, Bool, true, false, List, [], length, Option, Some, None, refl, sym, ap, ◌∙◌, arith}
-use Rattle.std.specs.Prelude.{Ok, Err, nat_lt, not}
-use Rattle.std.specs.Str.{bytes_eq}
+use Rattle.std.proofs.Common.{◌≡◌, ℕ, ◌≤◌, Bool, false, List, length, Option, Some, None, refl, sym, ap, ◌∙◌, arith}
+use Rattle.std.specs.Prelude.{Ok, Err}
 use Rattle.std.proofs.lemmas.Option.{none-some}
 use Rattle.trace_file.specs.declared.error.TraceError.{TraceError}
 use Rattle.trace_file.specs.declared.error.TraceError.TheVariants as Answer
 use Rattle.trace_file.specs.Edges.{Edge, IsEdges, ascends}
-use Rattle.trace_file.specs.Trace.{Refused, magic, first_difference, stored_digest, count_of, records_of, end_of, disorder, place_if, refuse, early_refusal, late_refusal, refusal, unless_refused, trace}
+use Rattle.trace_file.specs.Trace.{Refused, magic, first_difference, count_of, records_of, disorder, place_if, refuse, late_refusal, refusal, unless_refused, trace}
 use Rattle.trace_file.specs.Reads.{Blames, ReadsTrace}
 use Rattle.trace_file.proofs.Records.{length_records, ordered}
 

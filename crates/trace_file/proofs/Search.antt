@@ -1,9 +1,9 @@
 -- A search in a list of edges by halves.
-use Rattle.std.proofs.Common.{◌≡◌, ℕ, ◌+◌, ◌<◌, ◌≤◌, Bool, true, false, List, length, get_or, ◌⊎◌, inl, inr, refl, sym, ap, subst, ◌∙◌, arith}
+use Rattle.std.proofs.Common.{◌≡◌, ℕ, ◌+◌, ◌<◌, ◌≤◌, Bool, true, false, List, length, get_or, inl, inr, refl, sym, ap, subst, ◌∙◌, arith}
 use Rattle.std.specs.Prelude.{Contains, IsTrue, not, nat_lt}
 use Rattle.std.proofs.lemmas.Bool.{cases_Bool, cases_lt, ltb-true}
 use Rattle.std.proofs.lemmas.List.{get_or_default}
-use Rattle.trace_file.specs.Edges.{Edge, IsEdges, before, ascends}
+use Rattle.trace_file.specs.Edges.{Edge, IsEdges, before}
 use Rattle.trace_file.proofs.Sorted.{tied, not_before_itself, before_after, in_order}
 
 -- the edges below one place are before an edge, those from another on are not

@@ -1,5 +1,5 @@
 -- What the reader answers.
-use Rattle.std.specs.Prelude.{◌≡◌, ℕ, ◌+◌, ◌≤◌, List, Option, Some, None, Result, Ok, Err}
+use Rattle.std.specs.Prelude.{◌≡◌, ℕ, List, Option, Some, None, Result, Ok, Err}
 use Rattle.trace_file.specs.declared.error.TraceError.{TraceError}
 use Rattle.trace_file.specs.declared.error.TraceError.TheVariants as Answer
 use Rattle.trace_file.specs.Edges.{Edge}

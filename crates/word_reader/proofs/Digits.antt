@@ -1,5 +1,5 @@
 -- Numbers of few digits are small.
-use Rattle.std.proofs.Common.{◌≡◌, ℕ, ◌+◌, ◌*◌, ◌^◌, ◌<◌, ◌≤◌, arith, lit<}
+use Rattle.std.proofs.Common.{ℕ, ◌^◌, ◌<◌, ◌≤◌, arith, lit<}
 use Rattle.std.proofs.Math.Nat.{pow-le-pow_right}
 
 pub below_18 : (n i : ℕ) → n < 10 ^ i → i ≤ 17 → n < 100000000000000000

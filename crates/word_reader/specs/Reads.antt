@@ -1,5 +1,5 @@
 -- What the reader's parts answer.
-use Rattle.std.specs.Prelude.{◌≡◌, ◌≤◌, ◌+◌, ℕ, List, [], ◌∷◌, length, true, Option, Some, None, Result, Ok, Err, String, map, string_bytes}
+use Rattle.std.specs.Prelude.{◌≡◌, ◌≤◌, ◌+◌, ℕ, List, ◌∷◌, true, Option, Some, None, Result, Ok, Err, String, map, string_bytes}
 use Rattle.std.specs.Borrow.{Bor}
 use Rattle.word_reader.specs.Words.{Asked, Builds, Traces, Runs, Merges, Shows, Sessions, Demos, is_name, next_name, steps_behind, next_steps}
 use Rattle.word_reader.specs.declared.command.Command.{Command}

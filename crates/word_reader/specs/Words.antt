@@ -1,5 +1,5 @@
 -- The command that words are, or the position of the first word that is wrong, or the number of words where one is missing.
-use Rattle.std.specs.Prelude.{ℕ, ◌+◌, ◌≤◌, ◌&&◌, ◌||◌, not, nat_le, nat_lt, cond, Bool, List, [], ◌∷◌, length, sum, map, codes, Option, Some, None, Result, Ok, Err}
+use Rattle.std.specs.Prelude.{ℕ, ◌+◌, ◌&&◌, ◌||◌, not, nat_le, nat_lt, cond, Bool, List, [], ◌∷◌, length, sum, map, codes, Option, Some, None, Result, Ok, Err}
 use Rattle.std.specs.Str.{bytes_eq}
 use Rattle.word_reader.specs.Numbers.{number_in}
 

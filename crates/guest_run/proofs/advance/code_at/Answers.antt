@@ -1,6 +1,5 @@
-use Rattle.std.proofs.Common.{IfSome, arith, ◌≡◌, None, take}
+use Rattle.std.proofs.Common.{◌≡◌, None}
 use Rattle.br_word.specs.Memory.{Runs, bytes_at}
-use Rattle.ia_decode.proofs.Steps.{IsBytes}
 use Rattle.guest_run.proofs.Codes.{code_found, code_unread, code_inst}
 use Rattle.guest_run.proofs.advance.code_at.Goals as goal
 

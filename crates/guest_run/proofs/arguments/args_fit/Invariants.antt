@@ -1,4 +1,4 @@
-use Rattle.std.proofs.Common.{◌≡◌, ℕ, ◌+◌, ◌-◌, ◌^◌, min, length, take, string_bytes}
+use Rattle.std.proofs.Common.{◌≡◌, ◌+◌, ◌-◌, ◌^◌, min, length, take, string_bytes}
 use Rattle.std.specs.Prelude.{sum_by}
 use Rattle.guest_run.proofs.arguments.args_fit.Given as goal
 

@@ -1,4 +1,4 @@
-use Rattle.std.proofs.Common.{◌≡◌, ◌≢◌, ◌⊎◌, ◌+◌, ◌<◌, ◌≤◌, None, ℕ, ◌-◌}
+use Rattle.std.proofs.Common.{◌≡◌, ◌≢◌, ◌⊎◌, ◌<◌, ◌≤◌, None, ◌-◌}
 use Rattle.br_word.specs.Memory.{bytes_at, Writes}
 use Rattle.guest_sys.proofs.buffers.writable_front.Given as goal
 

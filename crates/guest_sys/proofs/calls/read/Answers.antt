@@ -1,4 +1,4 @@
-use Rattle.std.proofs.Common.{ap, sym, subst, ◌∙◌, ◌≡◌, Some, None, get_or, arith, length}
+use Rattle.std.proofs.Common.{ap, sym, ◌∙◌, ◌≡◌, Some, None, get_or, arith, length}
 use Rattle.ia_inst.specs.System.{filled}
 use Rattle.guest_sys.proofs.Puts.{put_false, put_true}
 use Rattle.guest_sys.proofs.Done.{answers_as, counts_as, bad_read, reads, read_faults, faults_as}

@@ -1,4 +1,4 @@
-use Rattle.std.proofs.Common.{◌≡◌, ◌≤◌, ℕ, ◌-◌, length, vec_len}
+use Rattle.std.proofs.Common.{◌≡◌, ◌≤◌, ◌-◌, vec_len}
 use Rattle.guest_sys.proofs.Taken.{HasTaken}
 use Rattle.guest_sys.proofs.taking.take_up_to.Given as goal
 

@@ -1,6 +1,5 @@
-use Rattle.std.proofs.Common.{◌≡◌, ℕ, List, [], ap, refl, arith}
-use Rattle.br_word.specs.State.{State}
-use Rattle.guest_run.specs.Run.{observed, run, WellDefined}
+use Rattle.std.proofs.Common.{[], ap, refl, arith}
+use Rattle.guest_run.specs.Run.{observed}
 use Rattle.sim_laws.proofs.Widen.{every_high, run_more}
 use Rattle.sim_laws.proofs.choices.choices_agree.Goals as goal
 

@@ -1,5 +1,5 @@
-use Rattle.std.proofs.Common.{length, ◌-◌, ◌≡◌, ℕ, ◌+◌, ◌<◌, ◌≤◌, ◌++◌, ◌∷◌, drop}
-use Rattle.trace_file.specs.Edges.{before, merge, step}
+use Rattle.std.proofs.Common.{length, ◌-◌, ◌≡◌, ◌+◌, ◌≤◌, ◌++◌, drop}
+use Rattle.trace_file.specs.Edges.{merge, step}
 use Rattle.trace_file.proofs.order.merged.Given as goal
 
 abbrev pub invariant-loop-next : goal.invariant-loop-next

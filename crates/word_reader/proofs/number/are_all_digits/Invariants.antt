@@ -1,4 +1,4 @@
-use Rattle.std.proofs.Common.{◌≡◌, ℕ, List, drop}
+use Rattle.std.proofs.Common.{◌≡◌, drop}
 use Rattle.word_reader.specs.Numbers.{are_digits}
 use Rattle.word_reader.proofs.number.are_all_digits.Given as goal
 

@@ -1,4 +1,4 @@
-use Rattle.std.proofs.Common.{◌<◌, arith}
+use Rattle.std.proofs.Common.{arith}
 use Rattle.word_reader.proofs.Digits.{below_18}
 use Rattle.word_reader.proofs.number.digits_number.Goals as goal
 

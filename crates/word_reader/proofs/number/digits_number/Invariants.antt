@@ -1,4 +1,4 @@
-use Rattle.std.proofs.Common.{◌≡◌, ◌<◌, ◌-◌, ◌^◌, ℕ, List, true, map, drop}
+use Rattle.std.proofs.Common.{◌≡◌, ◌<◌, ◌-◌, ◌^◌, true, map, drop}
 use Rattle.std.specs.Int.Digits.{number_from_digits_after}
 use Rattle.word_reader.specs.Numbers.{are_digits, number_of_digits}
 use Rattle.word_reader.proofs.number.digits_number.Given as goal

@@ -1,4 +1,4 @@
-use Rattle.std.proofs.Common.{◌≡◌, ◌≤◌, ◌+◌, ◌-◌, ℕ, List, map, drop}
+use Rattle.std.proofs.Common.{◌≡◌, ◌≤◌, ◌-◌, map, drop}
 use Rattle.std.specs.Prelude.{string_bytes}
 use Rattle.word_reader.specs.Words.{first_no_argument}
 use Rattle.word_reader.proofs.parts.check_arguments.Given as goal

@@ -1,5 +1,5 @@
-use Rattle.std.proofs.Common.{refl, sym, ◌∙◌, ap, subst, arith, ◌≡◌, ℕ, suc, ◌+◌, ◌-◌}
-use Rattle.guest_run.specs.Guest.{Runs, streams, GuestView}
+use Rattle.std.proofs.Common.{refl, sym, ap, arith, ◌≡◌, suc, ◌+◌, ◌-◌}
+use Rattle.guest_run.specs.Guest.{GuestView}
 use Rattle.guest_run.proofs.Whole.{runs_more, runs_failed, runs_at, runs_end, runs_idle, done_live, done_steps, done_bare}
 use Rattle.guest_run.proofs.guest.Guest.run.Goals as goal
 

@@ -1,4 +1,4 @@
-use Rattle.std.proofs.Common.{refl, sym, ◌∙◌}
+use Rattle.std.proofs.Common.{refl}
 use Rattle.guest_run.proofs.Stepped.{step_done, step_failed, step_not}
 use Rattle.guest_run.proofs.guest.Guest.step.Goals as goal
 

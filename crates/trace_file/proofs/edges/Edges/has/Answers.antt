@@ -1,5 +1,5 @@
-use Rattle.std.proofs.Common.{◌+◌, sym, ap, ◌∙◌, arith}
-use Rattle.trace_file.specs.Edges.{Edge, before}
+use Rattle.std.proofs.Common.{sym, ap, ◌∙◌, arith}
+use Rattle.trace_file.specs.Edges.{before}
 use Rattle.trace_file.proofs.Sorted.{edge}
 use Rattle.trace_file.proofs.Search.{lower_half, upper_half, answer_there, answer_none}
 use Rattle.trace_file.proofs.edges.Edges.has.Goals as goal

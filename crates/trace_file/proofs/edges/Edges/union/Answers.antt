@@ -1,6 +1,6 @@
 use Rattle.std.proofs.Common.{◌≡◌, sym, ap, ◌∙◌, subst}
 use Rattle.std.specs.Prelude.{Contains}
-use Rattle.trace_file.specs.Edges.{Edge, IsEdges, merge}
+use Rattle.trace_file.specs.Edges.{IsEdges, merge}
 use Rattle.trace_file.proofs.Union.{merge_edges, from_merge, to_merge}
 use Rattle.trace_file.proofs.edges.Edges.union.Goals as goal
 
