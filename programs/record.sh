@@ -4,6 +4,7 @@
 # status is the exit status, or `fault KIND` where a signal ended the program; steps is the number of single steps.
 set -u
 cd "$(dirname "$0")" || exit 1
+. ../scripts/lib.sh
 counter=$(mktemp) && gcc -O2 -Wall -Wextra -o "$counter" steps.c || exit 1
 trap 'rm -f "$counter"' EXIT
 [ $# -gt 0 ] || set -- $(ls cases)
@@ -13,13 +14,10 @@ for case in "$@"; do
     [ ! -e "$folder/args" ] || mapfile -t words < "$folder/args"
     input=/dev/null
     [ ! -e "$folder/stdin" ] || input=$folder/stdin
-    { "bin/${case%%-*}" "${words[@]}" < "$input" > "$folder/stdout" 2> "$folder/stderr"; } 2> /dev/null
-    status=$?
-    case $status in
-        132) status='fault illegal' ;;
-        136) status='fault divide' ;;
-        139) status='fault access' ;;
-    esac
+    got=$folder/got
+    run_natively "bin/${case%%-*}" "${words[@]}"
+    mv "$got.out" "$folder/stdout"
+    mv "$got.err" "$folder/stderr"
     echo "$status" > "$folder/status"
     "$counter" "bin/${case%%-*}" "${words[@]}" < "$input" > /dev/null 2> /dev/null 3> "$folder/steps"
     for stream in stdout stderr; do

@@ -15,13 +15,7 @@ set -u
 here=$(cd "$(dirname "$0")" && pwd)
 . "$here/lib.sh"
 programs=$here/../programs
-tool=("$@")
-tool[0]=$(realpath "$(command -v "$1" || echo "$1")")
-[ -x "${tool[0]}" ] || { echo "check_programs.sh: $1 is no program" >&2; exit 2; }
-folder=$(mktemp -d) || exit 2
-trap 'rm -rf "$folder"' EXIT
-cd "$folder" || exit 2
-got=$folder/got
+enter_folder "$@"
 budget=2000000000
 
 # Sets the words, input, wanted output and wanted status of a case.

@@ -7,13 +7,7 @@ set -u
 [ $# -gt 0 ] || { sed -n 2,2p "$0" >&2; exit 2; }
 here=$(cd "$(dirname "$0")" && pwd)
 . "$here/lib.sh"
-tool=("$@")
-tool[0]=$(realpath "$(command -v "$1" || echo "$1")")
-[ -x "${tool[0]}" ] || { echo "check_rows.sh: $1 is no program" >&2; exit 2; }
-folder=$(mktemp -d) || exit 2
-trap 'rm -rf "$folder"' EXIT
-cd "$folder" || exit 2
-got=$folder/got
+enter_folder "$@"
 input=/dev/null
 
 # The recompiler with the words after NAME STATUS OUTPUT REPORT must end with that status and those two texts.

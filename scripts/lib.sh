@@ -68,3 +68,14 @@ knows_all_instructions() {
     executable probe '21c0 b801000000 bb00000000 cd80'
     [ "$("${tool[@]}" run probe 2>&1 < /dev/null)" = 'exit 0 steps 4 undefined 0' ]
 }
+
+# Takes PROGRAM [WORD..] as the recompiler `tool`, and goes to a `folder` of its own, which is removed at the end.
+enter_folder() {
+    tool=("$@")
+    tool[0]=$(realpath "$(command -v "$1" || echo "$1")")
+    [ -x "${tool[0]}" ] || { echo "$(basename "$0"): $1 is no program" >&2; exit 2; }
+    folder=$(mktemp -d) || exit 2
+    trap 'rm -rf "$folder"' EXIT
+    cd "$folder" || exit 2
+    got=$folder/got
+}
