@@ -6,7 +6,7 @@ use Rattle.ia_inst.specs.declared.inst.Inst.TheVariants.{Alu, MulDiv, Rotate, Se
 use Rattle.ia_inst.specs.declared.inst.Kind.{Kind}
 use Rattle.ia_inst.specs.declared.inst.Kind.TheVariants.{Plain, Island, Transfer}
 
--- islands are run as they stand, transfers decide what comes next, and all others are plain
+-- native instructions are run as they stand, transfers decide what comes next, and all others are plain
 abbrev pub kind_of : Inst → Kind
 kind_of (MulDiv k a) = Island
 kind_of (Rotate right a n) = Island

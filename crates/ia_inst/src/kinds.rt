@@ -8,7 +8,7 @@ use crate::inst::{Inst, Kind};
 
 /// The kind of a valid instruction.
 ///
-/// Islands are int 0x80, MUL, IMUL of one operand, DIV, IDIV, ROL, ROR, SAHF, and MOVS and STOS with
+/// Native instructions are int 0x80, MUL, IMUL of one operand, DIV, IDIV, ROL, ROR, SAHF, and MOVS and STOS with
 /// and without REP. Transfers are Jcc, JMP, CALL and RET in all their forms.
 pub fn kind(i: &Inst) -> Kind
     requires { IsTrue (valid_of i.now) }
