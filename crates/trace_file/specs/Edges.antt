@@ -32,3 +32,21 @@ step a rest (b ∷ bs) = if before a b then (a ∷ rest (b ∷ bs)) else (if bef
 abbrev pub merge : List Edge → List Edge → List Edge
 merge [] bs = bs
 merge (a ∷ es) bs = step a (merge es) bs
+
+-- an edge put in its place, unless it is there
+abbrev pub with_edge : Edge → List Edge → List Edge
+with_edge e es = merge (e ∷ []) es
+
+-- edges in any order, put in one after another
+abbrev pub collected : List Edge → List Edge → List Edge
+collected [] es = es
+collected (e ∷ more) es = collected more (with_edge e es)
+
+-- edges in any order as a set: in order, each once
+abbrev pub in_order : List Edge → List Edge
+in_order es = collected es []
+
+-- the union of sets
+abbrev pub union_of : List (List Edge) → List Edge
+union_of [] = []
+union_of (es ∷ sets) = merge es (union_of sets)

@@ -1,0 +1,3 @@
+pub mod Tour
+pub mod Told
+pub mod Records

@@ -1,0 +1,1 @@
+//! Examples over the streams in memory.
