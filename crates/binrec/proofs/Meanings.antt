@@ -16,7 +16,7 @@ use Rattle.binrec.specs.Plans.Plan.{Ends, Went}
 use Rattle.binrec.specs.Plans.Told.{HasFailed}
 use Rattle.binrec.specs.Plans.Happened.{Tells, Reported, Happened}
 use Rattle.word_reader.specs.Words.{Asked, Builds, Traces, Runs, Merges, Shows, Sessions, Demos, command}
-use Rattle.binrec.specs.Words.{built_command, asked_by, word_of_guest}
+use Rattle.binrec.specs.Words.{built_command, asked_by, first_name}
 use Rattle.binrec.specs.Commands.{built_line, done_with, of_command, plan}
 use Rattle.binrec.specs.Meaning.{Says, Unstored, OnlyUnder, IsStored, Stores, build_status, read_status, MeansBuild, MeansUsage}
 use Rattle.binrec.specs.declared.acts.stop.Stop.TheVariants.{Because, Memory}
@@ -232,7 +232,7 @@ taken name original o s m result t law (v, same, c) reported =
 -- What `build N E` answers means what it is to mean.
 pub means_build : (words : List (List ℕ)) (name original : List ℕ) (s : World) (result : ℕ) (t : World) → Law → Happened (plan words) s result t → asked_by words ≡ Ok (Builds name original []) → MeansBuild name original s result t
 means_build words name original s result t law (o, m, went, reported) asked =
-    let P : Result Asked ℕ → Type 0 = λ r. Went (of_command r (word_of_guest words)) s o m in
+    let P : Result Asked ℕ → Type 0 = λ r. Went (of_command r (first_name words)) s o m in
     taken name original o s m result t law (course name original s o m (subst P asked went)) reported
 
 -- ---- words that are no command
@@ -263,7 +263,7 @@ usage_reported at s o result t is (inr (r, told, same)) = let P : World → Type
 
 is_usage : (words : List (List ℕ)) (at : ℕ) (s : World) (result : ℕ) (t : World) → Happened (plan words) s result t → asked_by words ≡ Err at → IsUsage at s result t
 is_usage words at s result t (o, m, went, reported) asked =
-    let P : Result Asked ℕ → Type 0 = λ r. Went (of_command r (word_of_guest words)) s o m in
+    let P : Result Asked ℕ → Type 0 = λ r. Went (of_command r (first_name words)) s o m in
     let ends : (m ≡ s) × ((o ≡ Err Memory) ⊎ (o ≡ Err (Because (Usage at)))) = usage_end at s o m (subst P asked went) in
     let Q : World → Type 0 = λ m. Reported o m result t in
     usage_reported at s o result t ends.1 (subst Q ends.0 reported)
@@ -295,8 +295,8 @@ not_built r words asked is = subst AllThere is (all_there r words)
 -- an end of `run` is no usage
 run_no_usage : (words : List (List ℕ)) (steps : ℕ) (e : List ℕ) (args : List (List ℕ)) (s : World) (result : ℕ) (t : World) → Happened (plan words) s result t → asked_by words ≡ Ok (Runs steps e args) → result ≡ 1 → ⊥
 run_no_usage words steps e args s result t (o, m, went, reported) asked one =
-    let P : Result Asked ℕ → Type 0 = λ r. Went (of_command r (word_of_guest words)) s o m in
-    not_1 o m result t (run_end steps e args (word_of_guest words) s o m (subst P asked went)) reported one
+    let P : Result Asked ℕ → Type 0 = λ r. Went (of_command r (first_name words)) s o m in
+    not_1 o m result t (run_end steps e args (first_name words) s o m (subst P asked went)) reported one
 
 only_usage : (words : List (List ℕ)) (s : World) (result : ℕ) (t : World) → Law → Happened (plan words) s result t → result ≡ 1 → (read : Result Asked ℕ) → asked_by words ≡ read → (at : ℕ) × (asked_by words ≡ Err at) × Says (cause_text (Usage at)) s t
 only_usage words s result t law h is (Ok (Builds name original [])) asked = absurd ((means_build words name original s result t law h asked).usage is)

@@ -11,7 +11,7 @@ use Rattle.guest_run.specs.Opening.{opening, arguments}
 use Rattle.guest_run.specs.Run.{run}
 use Rattle.guest_run.specs.Guest.{beginning, ahead, while_running, steps_taken, undefined_taken}
 use Rattle.word_reader.specs.Words.{Asked, Runs}
-use Rattle.binrec.specs.Words.{asked_by, word_of_guest}
+use Rattle.binrec.specs.Words.{asked_by, first_name}
 use Rattle.binrec.specs.Plans.World.{World}
 use Rattle.binrec.specs.Plans.Texts.{end_text, end_status, stop_text, stop_status}
 use Rattle.binrec.specs.Plans.Parts.{checked}
@@ -86,7 +86,7 @@ decided n name args word files left s result t told has (inr (inl failed)) = inr
 decided n name args word files left s result t told has (inr (inr w)) = inr (inr (fetched n args word files left s result t told has (files name) w))
 
 pub means_run : (words : List (List ℕ)) (n : ℕ) (name : List ℕ) (args : List (List ℕ)) (s : World) (result : ℕ) (t : World) → IsExact (plan words) s result t → asked_by words ≡ Ok (Runs n name args)
-    → MeansRun n name args (word_of_guest words) s result t
+    → MeansRun n name args (first_name words) s result t
 means_run words n name args s result t exact asked files left told has =
-    let P : Result Asked ℕ → Type 0 = λ r. IsExact (of_command r (word_of_guest words)) s result t in
-    decided n name args (word_of_guest words) files left s result t told has (subst P asked exact files left (record { shelf = inr told; input = inr has }))
+    let P : Result Asked ℕ → Type 0 = λ r. IsExact (of_command r (first_name words)) s result t in
+    decided n name args (first_name words) files left s result t told has (subst P asked exact files left (record { shelf = inr told; input = inr has }))

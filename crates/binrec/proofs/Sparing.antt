@@ -9,7 +9,7 @@ use Rattle.guest_sys.specs.Machine.{fed}
 use Rattle.guest_sys.specs.Calls.{spare}
 use Rattle.guest_run.specs.Guest.{GuestView, beginning, while_running, asks_next}
 use Rattle.word_reader.specs.Words.{Asked, Builds, Traces, Runs, Merges, Shows, Sessions, Demos}
-use Rattle.binrec.specs.Words.{asked_by, word_of_guest}
+use Rattle.binrec.specs.Words.{asked_by, first_name}
 use Rattle.binrec.specs.Plans.Texts.{Finished}
 use Rattle.binrec.specs.Plans.Plan.{Plan, Ends, Turns}
 use Rattle.binrec.specs.Plans.Parts.{checked}
@@ -58,4 +58,4 @@ command_sparing (Ok (Demos n)) word = tt
 command_sparing (Err at) word = tt
 
 pub sparing : (words : List (List ℕ)) → IsSparing (plan words)
-sparing words = command_sparing (asked_by words) (word_of_guest words)
+sparing words = command_sparing (asked_by words) (first_name words)

@@ -7,7 +7,7 @@ use Rattle.binrec.specs.Plans.Plan.{Plan, Went}
 use Rattle.binrec.specs.Plans.Happened.{TellsStop, Happened}
 use Rattle.binrec.specs.Plans.Told.{IsExact, IsComplete, HasCause}
 use Rattle.word_reader.specs.Words.{Asked, Builds, Runs}
-use Rattle.binrec.specs.Words.{asked_by, word_of_guest}
+use Rattle.binrec.specs.Words.{asked_by, first_name}
 use Rattle.binrec.specs.Commands.{asked_plan, of_command, plan, run_plan}
 use Rattle.binrec.specs.Meaning.{MeansBuild, MeansRun, MeansUsage}
 use Rattle.binrec.specs.declared.acts.stop.Stop.{Stop}
@@ -20,14 +20,14 @@ use Rattle.binrec.proofs.RunMeant.{means_run}
 use Rattle.binrec.proofs.Meanings.{Law, means_build, means_usage}
 
 pub no_command : (words : List (List ℕ)) (at : ℕ) (s : World) → asked_by words ≡ Err at → Went (plan words) s (Err (Because (Usage at))) s
-no_command words at s is = let P : Result Asked ℕ → Type 0 = λ r. Went (of_command r (word_of_guest words)) s (Err (Because (Usage at))) s in subst P (sym is) (ended (Err (Usage at)) s)
+no_command words at s is = let P : Result Asked ℕ → Type 0 = λ r. Went (of_command r (first_name words)) s (Err (Because (Usage at))) s in subst P (sym is) (ended (Err (Usage at)) s)
 
 -- the command that was asked for
-pub asked_for : (words : List (List ℕ)) (asked : Asked) (s : World) (o : End) (t : World) → asked_by words ≡ Ok asked → Went (asked_plan asked (word_of_guest words)) s o t → Went (plan words) s o t
-asked_for words asked s o t is went = let P : Result Asked ℕ → Type 0 = λ r. Went (of_command r (word_of_guest words)) s o t in subst P (sym is) went
+pub asked_for : (words : List (List ℕ)) (asked : Asked) (s : World) (o : End) (t : World) → asked_by words ≡ Ok asked → Went (asked_plan asked (first_name words)) s o t → Went (plan words) s o t
+asked_for words asked s o t is went = let P : Result Asked ℕ → Type 0 = λ r. Went (of_command r (first_name words)) s o t in subst P (sym is) went
 
 -- a run, by where its file stands in the words
-pub run_for : (words : List (List ℕ)) (steps : ℕ) (e : List ℕ) (args : List (List ℕ)) (word : ℕ) (s : World) (o : End) (t : World) → asked_by words ≡ Ok (Runs steps e args) → word ≡ word_of_guest words → Went (run_plan steps e args word) s o t → Went (plan words) s o t
+pub run_for : (words : List (List ℕ)) (steps : ℕ) (e : List ℕ) (args : List (List ℕ)) (word : ℕ) (s : World) (o : End) (t : World) → asked_by words ≡ Ok (Runs steps e args) → word ≡ first_name words → Went (run_plan steps e args word) s o t → Went (plan words) s o t
 run_for words steps e args word s o t is at went = let P : ℕ → Type 0 = λ w. Went (run_plan steps e args w) s o t in asked_for words (Runs steps e args) s o t is (subst P at went)
 
 -- the line of a stop was given, or memory was wanting for it
@@ -42,7 +42,7 @@ pub record AllOf (words : List (List ℕ)) (s : World) (result : ℕ) (t : World
   pub complete : IsComplete (plan words) s result t
   pub cause : HasCause s result t
   pub usage : MeansUsage words s result t
-  pub run : (steps : ℕ) (name : List ℕ) (args : List (List ℕ)) → asked_by words ≡ Ok (Runs steps name args) → MeansRun steps name args (word_of_guest words) s result t
+  pub run : (steps : ℕ) (name : List ℕ) (args : List (List ℕ)) → asked_by words ≡ Ok (Runs steps name args) → MeansRun steps name args (first_name words) s result t
   pub build : (name original : List ℕ) → asked_by words ≡ Ok (Builds name original []) → MeansBuild name original s result t
 
 pub all_of : (words : List (List ℕ)) (s : World) (result : ℕ) (t : World) → Law → Happened (plan words) s result t → AllOf words s result t

@@ -1,31 +1,24 @@
 -- The commands, each as its plan. The first cause in the order of work decides.
 use Rattle.std.specs.Prelude.{ℕ, List, ◌++◌, length, Result, Ok, Err, codes, string_bytes}
 use Rattle.std.specs.Fmt.{decimal}
-use Rattle.elf_read.specs.Elf.{elf, Refused}
+use Rattle.elf_read.specs.Elf.{elf}
 use Rattle.elf_read.specs.declared.exe.Exe.{Exe}
-use Rattle.elf_read.specs.declared.exe.Reach.TheVariants.{Original, Guest}
+use Rattle.elf_read.specs.declared.exe.Reach.TheVariants.{Guest}
+use Rattle.trace_file.specs.Edges.{Edge, union_of}
+use Rattle.trace_file.specs.Trace.{trace_bytes}
 use Rattle.build_core.specs.Image.{image}
 use Rattle.binrec.specs.Plans.Plan.{Plan, Ends, Fetches, Stores}
 use Rattle.binrec.specs.Plans.Parts.{checked}
 use Rattle.binrec.specs.Plans.Texts.{Finished, End}
-use Rattle.word_reader.specs.Words.{Asked, Builds, Runs}
+use Rattle.word_reader.specs.Words.{Asked, Builds, Runs, Merges}
 use Rattle.guest_run.specs.Guest.{beginning}
-use Rattle.binrec.specs.Words.{asked_by, word_of_guest}
+use Rattle.binrec.specs.Words.{asked_by, first_name}
 use Rattle.binrec.specs.Guests.{guest_plan}
+use Rattle.binrec.specs.Traces.{of_word, original_part, subject_part, traces_part, limited}
 use Rattle.binrec.specs.declared.acts.stop.Outcome.{Outcome}
 use Rattle.binrec.specs.declared.acts.stop.Finish.TheVariants.{Done}
 use Rattle.binrec.specs.declared.acts.stop.Stop.{Stop}
-use Rattle.binrec.specs.declared.acts.stop.Cause.{Cause}
-use Rattle.binrec.specs.declared.acts.stop.Cause.TheVariants.{Usage, RefusedWord}
-
--- what a file says, or its refusal, with the position of its word
-abbrev pub of_word : ℕ → Result Exe Refused → Result Exe Cause
-of_word word (Ok exe) = Ok exe
-of_word word (Err refused) = Err (RefusedWord word refused.number refused.place)
-
--- an original is fetched and read
-abbrev pub original_part : List ℕ → ℕ → (Exe → Plan) → Plan
-original_part name word next = Fetches name 16777216 (λ bytes. checked (of_word word (elf Original bytes)) next)
+use Rattle.binrec.specs.declared.acts.stop.Cause.TheVariants.{Usage}
 
 abbrev pub built_line : ℕ → ℕ → ℕ → List ℕ
 built_line blocks code length = codes "built " ++ (decimal blocks ++ (codes " " ++ (decimal code ++ (codes " " ++ (decimal length ++ codes "\n")))))
@@ -39,6 +32,19 @@ image_part name exe = Stores name (image exe) (Ends (Ok (done_with (built_line 0
 abbrev pub build_plan : List ℕ → List ℕ → Plan
 build_plan name original = original_part original 2 (image_part name)
 
+abbrev pub merged_line : ℕ → List ℕ
+merged_line edges = codes "merged " ++ (decimal edges ++ codes "\n")
+
+-- a union is stored as a trace of the original with this digest
+abbrev pub store_part : List ℕ → List ℕ → List Edge → Plan
+store_part target digest es = Stores target (trace_bytes es digest) (Ends (Ok (done_with (merged_line (length es)))))
+
+abbrev pub union_part : List ℕ → List ℕ → List Edge → Plan
+union_part target digest es = checked (limited es) (store_part target digest)
+
+abbrev pub merge_plan : List ℕ → List ℕ → List (List ℕ) → Plan
+merge_plan target original names = subject_part original 2 (λ subject. traces_part subject.digest names 3 0 (λ traces. union_part target subject.digest (union_of traces)))
+
 -- a guest is fetched and read
 abbrev pub guest_part : List ℕ → ℕ → (Exe → Plan) → Plan
 guest_part name word next = Fetches name 268435456 (λ bytes. checked (of_word word (elf Guest bytes)) next)
@@ -46,10 +52,11 @@ guest_part name word next = Fetches name 268435456 (λ bytes. checked (of_word w
 abbrev pub run_plan : ℕ → List ℕ → List (List ℕ) → ℕ → Plan
 run_plan steps name args word = guest_part name word (λ exe. guest_plan steps (beginning exe args))
 
--- by the command, and where the word of a guest stands
+-- by the command, and where its first name stands
 abbrev pub asked_plan : Asked → ℕ → Plan
 asked_plan (Builds name original traces) word = build_plan name original
 asked_plan (Runs steps name args) word = run_plan steps name args word
+asked_plan (Merges target original names) word = merge_plan target original names
 asked_plan _ word = Ends (Err (Usage 0))
 
 abbrev pub of_command : Result Asked ℕ → ℕ → Plan
@@ -58,7 +65,7 @@ of_command (Err at) word = Ends (Err (Usage at))
 
 -- what the words ask for
 abbrev pub plan : List (List ℕ) → Plan
-plan words = of_command (asked_by words) (word_of_guest words)
+plan words = of_command (asked_by words) (first_name words)
 
 -- how the work of a command ended
 abbrev pub end_of : Result Outcome Stop → End

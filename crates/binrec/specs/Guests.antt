@@ -24,8 +24,9 @@ use Rattle.binrec.specs.declared.acts.stop.Stop.TheVariants.{Outside, Memory}
 abbrev pub address_text : ℕ → List ℕ
 address_text at = replicate (8 - length (digits 16 false at)) 48 ++ digits 16 false at
 
-abbrev pub counts_text : ℕ → ℕ → List ℕ
-counts_text steps undefined = codes " steps " ++ (decimal steps ++ (codes " undefined " ++ (decimal undefined ++ codes "\n")))
+-- how many steps were taken, how many of them read an undefined flag, and what stands behind
+abbrev pub counts_text : ℕ → ℕ → List ℕ → List ℕ
+counts_text steps undefined rest = codes " steps " ++ (decimal steps ++ (codes " undefined " ++ (decimal undefined ++ rest)))
 
 abbrev pub fault_kind : GuestFault → List ℕ
 fault_kind (Access at) = codes "access"
@@ -37,11 +38,15 @@ fault_address (Access at) = at
 fault_address (Illegal at) = at
 fault_address (Divide at) = at
 
+-- how a guest stands
+abbrev pub stand_text : Stop → List ℕ
+stand_text Running = codes "budget"
+stand_text (Exited status) = codes "exit " ++ decimal status
+stand_text (Faulted fault) = codes "fault " ++ (fault_kind fault ++ (codes " " ++ address_text (fault_address fault)))
+
 -- how a guest stands, the steps that it took, and how many of them read an undefined flag
 abbrev pub last_line : Stop → ℕ → ℕ → List ℕ
-last_line Running steps undefined = codes "budget" ++ counts_text steps undefined
-last_line (Exited status) steps undefined = codes "exit " ++ (decimal status ++ counts_text steps undefined)
-last_line (Faulted fault) steps undefined = codes "fault " ++ (fault_kind fault ++ (codes " " ++ (address_text (fault_address fault) ++ counts_text steps undefined)))
+last_line stop steps undefined = stand_text stop ++ counts_text steps undefined (codes "\n")
 
 abbrev pub finish_of : Stop → Finish
 finish_of Running = finishes.Budget

@@ -1,5 +1,5 @@
 -- What the answers of the commands mean, in a user's words.
-use Rattle.std.specs.Prelude.{◌≡◌, ◌⊎◌, ◌<◌, ◌≤◌, nat_le, ℕ, List, [], ◌++◌, length, Option, Some, None, IfSome, Result, Ok, Err, cond, IsTrue}
+use Rattle.std.specs.Prelude.{◌≡◌, ◌⊎◌, ◌<◌, ◌≤◌, ◌+◌, nat_le, ℕ, List, [], ◌∷◌, ◌++◌, length, Option, Some, None, IfSome, Result, Ok, Err, cond, IsTrue}
 use Rattle.std.specs.Option.{option_map}
 use Rattle.br_outside.specs.Files.{Files, put}
 use Rattle.br_outside.specs.Outside.{SameBut}
@@ -7,6 +7,10 @@ use Rattle.elf_read.specs.Elf.{elf, Refused}
 use Rattle.elf_read.specs.declared.exe.Exe.{Exe}
 use Rattle.elf_read.specs.declared.exe.Reach.TheVariants.{Original, Guest}
 use Rattle.build_core.specs.Image.{image}
+use Rattle.sha2.specs.Sha256.{sha256}
+use Rattle.trace_file.specs.Edges.{Edge, union_of}
+use Rattle.trace_file.specs.Trace.{trace, trace_bytes}
+use Rattle.trace_file.specs.Trace as trace_file
 use Rattle.sim_laws.specs.Preserves.{Preserves}
 use Rattle.binrec.specs.Plans.World.{World}
 use Rattle.br_word.specs.State.{State}
@@ -17,7 +21,7 @@ use Rattle.binrec.specs.Guests.{finish_of, last_line}
 use Rattle.binrec.specs.Plans.Texts.{cause_text, object_text, finish_status}
 use Rattle.binrec.specs.Plans.Told.{HasFailed, LeavesBut}
 use Rattle.binrec.specs.Words.{asked_by}
-use Rattle.binrec.specs.Commands.{built_line}
+use Rattle.binrec.specs.Commands.{built_line, merged_line}
 use Rattle.binrec.specs.declared.acts.stop.Cause.TheVariants.{Usage, RefusedWord, Limited}
 use Rattle.binrec.specs.declared.acts.stop.Object.{Object}
 use Rattle.binrec.specs.declared.acts.stop.Object.TheVariants as objects
@@ -114,3 +118,49 @@ RunsContent n args word left (Some content) s result t = (length content ≤ 268
 abbrev pub MeansRun : ℕ → List ℕ → List (List ℕ) → ℕ → World → ℕ → World → Type 0
 MeansRun n name args word s result t = (files : Files) (left : List ℕ) → s.shelf.files ≡ Some files → s.input.bytes ≡ Some left →
     (result ≡ 4) ⊎ (((result ≡ 3) × (x : Object) × HasFailed x s t) ⊎ RunsContent n args word left (files name) s result t)
+
+-- ---- merge
+
+-- the bytes were stored under a name, and a line was reported; nothing else was done
+pub record HasStored (name bytes line : List ℕ) (files : Files) (s : World) (result : ℕ) (t : World) : Type 0 where
+  pub status : result ≡ 0
+  pub stored : t.shelf.files ≡ Some (put name (Some bytes) files)
+  pub report : Says line s t
+  pub input : t.input.bytes ≡ s.input.bytes
+  pub out : t.out.bytes ≡ s.out.bytes
+
+-- Of the original with this digest the edges were stored, unless they are too many.
+abbrev pub MergesUnion : List ℕ → List ℕ → List Edge → Files → World → ℕ → World → Type 0
+MergesUnion target digest es files s result t = (length es ≤ 2000000 → HasStored target (trace_bytes es digest) (merged_line (length es)) files s result t)
+    × (2000000 < length es → OnlySays 7 (cause_text (Limited limits.Union)) s result t)
+
+-- By the content of a trace; `next` is what its edges lead to, and `before` how many edges the traces before it have.
+abbrev pub MergesEdges : Result (List Edge) trace_file.Refused → (List Edge → Type 0) → ℕ → ℕ → World → ℕ → World → Type 0
+MergesEdges (Ok es) next word before s result t = (before + length es ≤ 16777216 → next es) × (16777216 < before + length es → OnlySays 7 (cause_text (Limited limits.Edges)) s result t)
+MergesEdges (Err refused) next word before s result t = OnlySays 2 (cause_text (RefusedWord word refused.number refused.place)) s result t
+
+abbrev pub MergesTrace : Option (List ℕ) → (List Edge → Type 0) → List ℕ → ℕ → ℕ → World → ℕ → World → Type 0
+MergesTrace None next digest word before s result t = OnlySays 3 (object_text objects.Shelf) s result t
+MergesTrace (Some content) next digest word before s result t = (length content ≤ 16777216 → MergesEdges (trace content digest) next word before s result t)
+    × (16777216 < length content → OnlySays 7 (cause_text (Limited (limits.File 16777216))) s result t)
+
+-- By the contents of the names that are left. The traces before them have `before` edges together.
+abbrev pub MergesTraces : List ℕ → List ℕ → List (List ℕ) → ℕ → ℕ → List (List Edge) → Files → World → ℕ → World → Type 0
+MergesTraces target digest [] word before done files s result t = MergesUnion target digest (union_of done) files s result t
+MergesTraces target digest (name ∷ names) word before done files s result t =
+    MergesTrace (files name) (λ es. MergesTraces target digest names (word + 1) (before + length es) (done ++ es ∷ []) files s result t) digest word before s result t
+
+-- By the content of the original.
+abbrev pub MergesRead : List ℕ → List (List ℕ) → List ℕ → Result Exe Refused → Files → World → ℕ → World → Type 0
+MergesRead target names content (Ok exe) files s result t = MergesTraces target (sha256 content) names 3 0 [] files s result t
+MergesRead target names content (Err refused) files s result t = OnlySays 2 (cause_text (RefusedWord 2 refused.number refused.place)) s result t
+
+abbrev pub MergesContent : List ℕ → List (List ℕ) → Option (List ℕ) → Files → World → ℕ → World → Type 0
+MergesContent target names None files s result t = OnlySays 3 (object_text objects.Shelf) s result t
+MergesContent target names (Some content) files s result t = (length content ≤ 16777216 → MergesRead target names content (elf Original content) files s result t)
+    × (16777216 < length content → OnlySays 7 (cause_text (Limited (limits.File 16777216))) s result t)
+
+-- What `merge` does over a shelf that tells, unless memory is wanting or an object fails.
+abbrev pub MeansMerge : List ℕ → List ℕ → List (List ℕ) → World → ℕ → World → Type 0
+MeansMerge target original names s result t = (files : Files) → s.shelf.files ≡ Some files →
+    (result ≡ 4) ⊎ (((result ≡ 3) × (x : Object) × HasFailed x s t) ⊎ MergesContent target names (files original) files s result t)

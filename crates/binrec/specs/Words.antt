@@ -1,21 +1,26 @@
 -- The commands that there are so far, read from the words of the command line.
-use Rattle.std.specs.Prelude.{◌≡◌, ℕ, min, List, [], ◌∷◌, codes, Result, Ok, Err, cond}
+use Rattle.std.specs.Prelude.{◌≡◌, ℕ, min, Bool, ◌||◌, List, [], ◌∷◌, codes, Result, Ok, Err, cond}
 use Rattle.std.specs.Str.{bytes_eq}
-use Rattle.word_reader.specs.Words.{Asked, Builds, Runs, command}
+use Rattle.word_reader.specs.Words.{Asked, Builds, Runs, Merges, command}
 use Rattle.word_reader.specs.Reads.{asked_of}
 use Rattle.word_reader.specs.declared.command.Command.{Command}
 
--- `build` takes no word behind E yet, and the other commands are not there yet
+-- `build` takes no word behind E yet, and `trace`, `show`, `session` and `demo` are not there yet
 abbrev pub built : Asked → Result Asked ℕ
 built (Builds n e []) = Ok (Builds n e [])
 built (Builds n e (word ∷ words)) = Err 3
 built (Runs steps e args) = Ok (Runs steps e args)
+built (Merges t e traces) = Ok (Merges t e traces)
 built _ = Err 0
+
+-- the command of this word takes all its words
+abbrev pub is_whole : List ℕ → Bool
+is_whole word = bytes_eq word (codes "run") || bytes_eq word (codes "merge")
 
 -- the position of the first wrong word, by the command's own word
 abbrev pub wrong_at : ℕ → List (List ℕ) → ℕ
 wrong_at at [] = 0
-wrong_at at (word ∷ words) = cond (bytes_eq word (codes "build")) (min at 3) (cond (bytes_eq word (codes "run")) at 0)
+wrong_at at (word ∷ words) = cond (bytes_eq word (codes "build")) (min at 3) (cond (is_whole word) at 0)
 
 abbrev pub built_command : Result Asked ℕ → List (List ℕ) → Result Asked ℕ
 built_command (Ok asked) words = built asked
@@ -30,11 +35,11 @@ abbrev pub Reads : Result Command ℕ → Result Asked ℕ → Type 0
 Reads (Ok read) asked = asked ≡ Ok (asked_of read)
 Reads (Err at) asked = asked ≡ Err at
 
--- where the word of the file stands that `run` is given
-abbrev pub word_behind_run : List (List ℕ) → ℕ
-word_behind_run [] = 1
-word_behind_run (word ∷ words) = cond (bytes_eq word (codes "--steps")) 3 1
+-- where the first name of `run` and `trace` stands, behind the number of steps where it is given
+abbrev pub behind_steps : List (List ℕ) → ℕ
+behind_steps [] = 1
+behind_steps (word ∷ words) = cond (bytes_eq word (codes "--steps")) 3 1
 
-abbrev pub word_of_guest : List (List ℕ) → ℕ
-word_of_guest [] = 1
-word_of_guest (word ∷ words) = word_behind_run words
+abbrev pub first_name : List (List ℕ) → ℕ
+first_name [] = 1
+first_name (word ∷ words) = behind_steps words

@@ -1,4 +1,8 @@
 //! The commands.
 
 pub mod build;
+pub mod lines;
+pub mod merge;
+pub mod original;
 pub mod run;
+pub mod traces;

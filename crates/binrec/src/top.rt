@@ -4,16 +4,17 @@ ghost use Rattle.binrec.specs.Plans.World.{world};
 ghost use Rattle.binrec.specs.Plans.Plan.{Went};
 ghost use Rattle.binrec.specs.Plans.Happened.{Happened};
 ghost use Rattle.binrec.specs.Plans.Told.{IsExact, IsComplete, HasCause};
-ghost use Rattle.word_reader.specs.Words.{Builds, Runs};
-ghost use Rattle.binrec.specs.Words.{asked_by, word_of_guest};
+ghost use Rattle.word_reader.specs.Words.{Builds, Runs, Merges};
+ghost use Rattle.binrec.specs.Words.{asked_by, first_name};
 ghost use Rattle.binrec.specs.Commands.{plan, end_of};
-ghost use Rattle.binrec.specs.Meaning.{MeansBuild, MeansRun, MeansUsage};
+ghost use Rattle.binrec.specs.Meaning.{MeansBuild, MeansRun, MeansMerge, MeansUsage};
 
 use crate::acts::report::{tell, tell_stop};
 use crate::acts::stop::{Cause, Outcome, Stop};
 use crate::commands::build::build_command;
+use crate::commands::merge::merge_command;
 use crate::commands::run::run_command;
-use crate::words::{read_command, word_of_guest};
+use crate::words::{first_name, read_command};
 use br_outside::{Shelf, Sink, Source};
 use build_core::image_law;
 use std::alloc::Global;
@@ -34,9 +35,10 @@ fn work<F: Shelf, I: Source, O: Sink, R: Sink>(
 ) -> Result<Outcome, Stop>
     ensures { Went (plan (map string_bytes words.now)) (world (F.seen shelf.old) (I.seen input.old) (O.seen out.old) (R.seen report.old)) (end_of result) (world (F.seen shelf.new) (I.seen input.new) (O.seen out.new) (R.seen report.new)) }
 {
-    let word = word_of_guest(words);
+    let word = first_name(words);
     match read_command(words) {
         Ok(Command::Build { n, e, .. }) => build_command(alloc, shelf, n, e),
+        Ok(Command::Merge { t, e, traces }) => merge_command(alloc, shelf, t, e, traces),
         Ok(Command::Run { steps, e, args }) => {
             run_command(alloc, shelf, input, out, report, steps, e, args, word)
         }
@@ -96,7 +98,10 @@ pub fn binrec<F: Shelf, I: Source, O: Sink, R: Sink>(
     ensures build { (name original : List ℕ) → asked_by (map string_bytes words.now) ≡ Ok (Builds name original []) → MeansBuild name original
         (world (F.seen shelf.old) (I.seen input.old) (O.seen out.old) (R.seen report.old)) result.0
         (world (F.seen shelf.new) (I.seen input.new) (O.seen out.new) (R.seen report.new)) }
-    ensures run { (steps : ℕ) (name : List ℕ) (args : List (List ℕ)) → asked_by (map string_bytes words.now) ≡ Ok (Runs steps name args) → MeansRun steps name args (word_of_guest (map string_bytes words.now))
+    ensures run { (steps : ℕ) (name : List ℕ) (args : List (List ℕ)) → asked_by (map string_bytes words.now) ≡ Ok (Runs steps name args) → MeansRun steps name args (first_name (map string_bytes words.now))
+        (world (F.seen shelf.old) (I.seen input.old) (O.seen out.old) (R.seen report.old)) result.0
+        (world (F.seen shelf.new) (I.seen input.new) (O.seen out.new) (R.seen report.new)) }
+    ensures merge { (target original : List ℕ) (names : List (List ℕ)) → asked_by (map string_bytes words.now) ≡ Ok (Merges target original names) → MeansMerge target original names
         (world (F.seen shelf.old) (I.seen input.old) (O.seen out.old) (R.seen report.old)) result.0
         (world (F.seen shelf.new) (I.seen input.new) (O.seen out.new) (R.seen report.new)) }
 {

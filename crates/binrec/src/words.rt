@@ -1,11 +1,18 @@
 //! The commands that there are so far.
 ghost use Rattle.std.specs.Prelude.{◌≡◌, map, string_bytes};
-ghost use Rattle.binrec.specs.Words.{Reads, asked_by, wrong_at, word_of_guest};
+ghost use Rattle.binrec.specs.Words.{Reads, asked_by, is_whole, wrong_at, first_name};
 
 use word_reader::{Command, read_words};
 
+/// Whether the command of this word takes all its words.
+fn is_whole(word: &str) -> bool
+    ensures { result ≡ is_whole word.now }
+{
+    word == "run" || word == "merge"
+}
+
 /// The position of the first wrong word, by the command's own word: `build` takes no word behind its
-/// second name yet, and the other commands but `run` are not there yet.
+/// second name yet, and `trace`, `show`, `session` and `demo` are not there yet.
 fn wrong_at(at: u32, words: &[String]) -> u32
     ensures { result ≡ wrong_at at (map string_bytes words.now) }
 {
@@ -15,10 +22,10 @@ fn wrong_at(at: u32, words: &[String]) -> u32
     if first.as_str() == "build" {
         return at.min(3);
     }
-    if first.as_str() == "run" { at } else { 0 }
+    if is_whole(first.as_str()) { at } else { 0 }
 }
 
-/// Reads the words after the program's name as `build` or `run`.
+/// Reads the words after the program's name as `build`, `run` or `merge`.
 ///
 /// The error is the position, from 0, of the first word that is wrong, or the number of words where
 /// one is missing; 0 for a command that is not there yet.
@@ -33,14 +40,15 @@ pub fn read_command(words: &[String]) -> Result<Command<'_>, u32>
             Ok(Command::Build { n, e, traces })
         }
         Ok(Command::Run { steps, e, args }) => Ok(Command::Run { steps, e, args }),
+        Ok(Command::Merge { t, e, traces }) => Ok(Command::Merge { t, e, traces }),
         Ok(_) => Err(0),
         Err(usage) => Err(wrong_at(usage.at, words)),
     }
 }
 
-/// The position of the word that names the file of `run`.
-pub fn word_of_guest(words: &[String]) -> u32
-    ensures { result ≡ word_of_guest (map string_bytes words.now) }
+/// The position of the first name of `run` and `trace`, behind the number of steps where it is given.
+pub fn first_name(words: &[String]) -> u32
+    ensures { result ≡ first_name (map string_bytes words.now) }
 {
     let [_, second, ..] = words else {
         return 1;

@@ -9,6 +9,7 @@ use Rattle.binrec.specs.declared.acts.stop.Cause.{Cause}
 use Rattle.binrec.specs.declared.acts.stop.Cause.TheVariants.{Usage, RefusedWord, Limited}
 use Rattle.binrec.specs.declared.acts.stop.Object.{Object}
 use Rattle.binrec.specs.declared.acts.stop.Object.TheVariants as objects
+use Rattle.binrec.specs.declared.acts.stop.Limit.{Limit}
 use Rattle.binrec.specs.declared.acts.stop.Limit.TheVariants as limits
 
 -- work that is done: how, and the line to report
@@ -26,10 +27,15 @@ object_text objects.Input = codes "outside input\n"
 object_text objects.Output = codes "outside output\n"
 object_text objects.Report = codes "outside report\n"
 
+abbrev pub limit_text : Limit → List ℕ
+limit_text (limits.File number) = codes "limit file " ++ (decimal number ++ codes "\n")
+limit_text limits.Edges = codes "limit edges 16777216\n"
+limit_text limits.Union = codes "limit union 2000000\n"
+
 abbrev pub cause_text : Cause → List ℕ
 cause_text (Usage word) = codes "usage " ++ (decimal word ++ codes "\n")
 cause_text (RefusedWord word number place) = codes "refused word " ++ (decimal word ++ (codes " " ++ (decimal number ++ (codes " " ++ (decimal place ++ codes "\n")))))
-cause_text (Limited (limits.File number)) = codes "limit file " ++ (decimal number ++ codes "\n")
+cause_text (Limited limit) = limit_text limit
 
 abbrev pub stop_text : Stop → List ℕ
 stop_text (Because cause) = cause_text cause

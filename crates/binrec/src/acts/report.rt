@@ -1,6 +1,6 @@
 //! The report line and the status.
 ghost use Rattle.std.specs.Prelude.{◌≡◌, IfOk, string_bytes};
-ghost use Rattle.binrec.specs.Plans.Texts.{object_text, cause_text, cause_status, finish_status};
+ghost use Rattle.binrec.specs.Plans.Texts.{object_text, limit_text, cause_text, cause_status, finish_status};
 ghost use Rattle.binrec.specs.Plans.Happened.{Tells, TellsStop};
 
 use super::stop::{Cause, Finish, Limit, Object, Stop};
@@ -34,6 +34,19 @@ impl Finish {
     }
 }
 
+impl Limit {
+    /// The report line where the limit is passed.
+    fn line(self, alloc: Global) -> Result<String, AllocError>
+        ensures { IfOk result (λ text. string_bytes text ≡ limit_text self) }
+    {
+        match self {
+            Limit::File(number) => format!(in alloc; "limit file {number}\n"),
+            Limit::Edges => String::from_str(alloc, "limit edges 16777216\n"),
+            Limit::Union => String::from_str(alloc, "limit union 2000000\n"),
+        }
+    }
+}
+
 impl Cause {
     /// The status of a cause.
     pub fn status(self) -> u8
@@ -57,7 +70,7 @@ impl Cause {
                 number,
                 place,
             } => format!(in alloc; "refused word {word} {number} {place}\n"),
-            Cause::Limited(Limit::File(number)) => format!(in alloc; "limit file {number}\n"),
+            Cause::Limited(limit) => limit.line(alloc),
         }
     }
 }

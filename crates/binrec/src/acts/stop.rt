@@ -18,6 +18,10 @@ pub enum Object {
 pub enum Limit {
     /// The most bytes of a file that is fetched.
     File(u32),
+    /// The most edges of all traces that are given.
+    Edges,
+    /// The most edges that are stored as one trace.
+    Union,
 }
 
 /// What the words, or the files that they name, are refused for.

@@ -1,58 +1,19 @@
 //! `build N E`: the image of an original, stored under a name.
-ghost use Rattle.std.specs.Prelude.{◌≡◌, ◌≤◌, Ok, IfOk, length, string_bytes};
-ghost use Rattle.elf_read.specs.Elf.{elf, IsOriginal};
-ghost use Rattle.elf_read.specs.declared.exe.Reach.TheVariants.{Original};
+ghost use Rattle.std.specs.Prelude.{◌≡◌, Ok, length, string_bytes};
+ghost use Rattle.elf_read.specs.Elf.{IsOriginal};
 ghost use Rattle.build_core.specs.Image.{image};
 ghost use Rattle.binrec.specs.Plans.World.{World, on_shelf};
 ghost use Rattle.binrec.specs.Plans.Plan.{Went};
-ghost use Rattle.binrec.specs.Plans.Parts.{Goes, Checks};
-ghost use Rattle.binrec.specs.Commands.{of_word, original_part, image_part, build_plan, built_line, end_of};
+ghost use Rattle.binrec.specs.Plans.Parts.{Checks};
+ghost use Rattle.binrec.specs.Commands.{image_part, build_plan, built_line, end_of};
 
-use crate::acts::files::{fetch_file, store_file};
-use crate::acts::stop::{Cause, Finish, Outcome, Stop};
+use crate::acts::files::store_file;
+use crate::acts::stop::{Finish, Outcome, Stop};
+use crate::commands::original::fetch_original;
 use br_outside::Shelf;
 use build_core::{BuildError, Built, build};
-use elf_read::{ElfError, Exe, Reach, read_elf};
+use elf_read::Exe;
 use std::alloc::Global;
-
-/// The most bytes of an original.
-const FILE_LIMIT: u32 = 16777216;
-
-/// What a file says as an original.
-///
-/// The error is the refusal, with the position `word` of the word that names the file, or want of
-/// memory.
-fn original_of(alloc: Global, bytes: Vec<u8>, word: u32) -> Result<Exe, Stop>
-    requires { length bytes.items ≤ FILE_LIMIT }
-    ensures checks { Checks (λ exe. exe) result (of_word word (elf Original bytes.items)) }
-    ensures original { IfOk result IsOriginal }
-{
-    match read_elf(alloc, &bytes, Reach::Original) {
-        Ok(exe) => Ok(exe),
-        Err(ElfError::Refused { number, place }) => Err(Stop::Because(Cause::RefusedWord {
-            word,
-            number: u32::from(number),
-            place,
-        })),
-        Err(ElfError::Memory) => Err(Stop::Memory),
-    }
-}
-
-/// The original under a name, fetched and read. The name stands at the position `word`.
-///
-/// The error is a failure of the shelf, the limit of the file, the refusal, or want of memory.
-fn fetch_original<F: Shelf>(
-    alloc: Global,
-    shelf: &mut F,
-    name: &str,
-    word: u32,
-) -> Result<Exe, Stop>
-    ensures goes { (w : World) → Goes (λ exe. exe) (original_part name.now word) (on_shelf w (F.seen shelf.old)) result (on_shelf w (F.seen shelf.new)) }
-    ensures original { IfOk result IsOriginal }
-{
-    let bytes = fetch_file(alloc, shelf, name, FILE_LIMIT)?;
-    original_of(alloc, bytes, word)
-}
 
 /// The image of an original. The error is want of memory.
 fn image_of(alloc: Global, exe: &Exe) -> Result<Built, Stop>

@@ -3,22 +3,22 @@ ghost use Rattle.std.specs.Prelude.{◌≡◌, ◌≤◌, ◌+◌, ◌^◌, Ok, 
 ghost use Rattle.elf_read.specs.Elf.{elf, IsGuest};
 ghost use Rattle.elf_read.specs.declared.exe.Reach.TheVariants as reaches;
 ghost use Rattle.br_outside.specs.Outside.{ShelfView};
-ghost use Rattle.guest_run.specs.Guest.{beginning, stop_of};
-ghost use Rattle.br_word.specs.State.{Faulted};
+ghost use Rattle.guest_run.specs.Guest.{beginning};
 ghost use Rattle.guest_run.specs.Opening.{FitArguments};
 ghost use Rattle.binrec.specs.Plans.World.{World, on_shelf, world};
 ghost use Rattle.binrec.specs.Plans.Plan.{Went};
 ghost use Rattle.binrec.specs.Plans.Parts.{Goes, Checks};
-ghost use Rattle.binrec.specs.Guests.{address_text, fault_kind, fault_address, last_line, finish_of, guest_plan, stands, stop_of_error, TakesTurns};
-ghost use Rattle.binrec.specs.Commands.{of_word, guest_part, run_plan, end_of};
+ghost use Rattle.binrec.specs.Guests.{guest_plan, stands, stop_of_error, TakesTurns};
+ghost use Rattle.binrec.specs.Traces.{of_word};
+ghost use Rattle.binrec.specs.Commands.{guest_part, run_plan, end_of};
 
 use crate::acts::files::fetch_file;
-use crate::acts::stop::{Cause, Finish, Object, Outcome, Stop};
+use crate::acts::stop::{Cause, Object, Outcome, Stop};
+use crate::commands::lines::{finish_of, last_line};
 use br_outside::{Shelf, Sink, Source};
-use br_word::GuestFault;
 use elf_read::{ElfError, Exe, Reach, read_elf};
-use guest_run::{Guest, Stop as Stand, SysError};
-use std::alloc::{AllocError, Global};
+use guest_run::{Guest, SysError};
+use std::alloc::Global;
 
 /// The most bytes of a file that is run.
 const FILE_LIMIT: u32 = 268435456;
@@ -93,75 +93,6 @@ fn take_turns<I: Source, O: Sink, R: Sink>(
         }
     }
     Ok(())
-}
-
-/// An address in eight hexadecimal digits.
-fn address_text(alloc: Global, at: u32) -> Result<String, AllocError>
-    ensures { IfOk result (λ text. string_bytes text ≡ address_text at) }
-{
-    match format!(in alloc; "{at:08x}") {
-        Ok(text) => Ok(text),
-        Err(error) => Err(error),
-    }
-}
-
-/// The word of a fault.
-fn fault_kind(fault: GuestFault) -> &'static str
-    ensures { result.now ≡ fault_kind fault }
-{
-    match fault {
-        GuestFault::Access(_) => "access",
-        GuestFault::Illegal(_) => "illegal",
-        GuestFault::Divide(_) => "divide",
-    }
-}
-
-/// The address of a fault.
-fn fault_address(fault: GuestFault) -> u32
-    ensures { result ≡ fault_address fault }
-{
-    match fault {
-        GuestFault::Access(at) | GuestFault::Illegal(at) | GuestFault::Divide(at) => at,
-    }
-}
-
-/// The last line of a guest that has faulted.
-fn fault_line(
-    alloc: Global,
-    fault: GuestFault,
-    steps: u64,
-    undefined: u64,
-) -> Result<String, AllocError>
-    ensures { IfOk result (λ line. string_bytes line ≡ last_line (Faulted fault) steps undefined) }
-{
-    let kind = fault_kind(fault);
-    let address = address_text(alloc, fault_address(fault))?;
-    format!(in alloc; "fault {kind} {address} steps {steps} undefined {undefined}\n")
-}
-
-/// The last line: how a guest stands, the steps that it took, and how many of them read a flag that was
-/// not defined.
-fn last_line(alloc: Global, stand: Stand, steps: u64, undefined: u64) -> Result<String, AllocError>
-    ensures { IfOk result (λ line. string_bytes line ≡ last_line (stop_of stand) steps undefined) }
-{
-    match stand {
-        Stand::Budget => { format!(in alloc; "budget steps {steps} undefined {undefined}\n") }
-        Stand::Exited(status) => {
-            format!(in alloc; "exit {status} steps {steps} undefined {undefined}\n")
-        }
-        Stand::Fault(fault) => fault_line(alloc, fault, steps, undefined),
-    }
-}
-
-/// How the work of a guest that stands so is done.
-fn finish_of(stand: Stand) -> Finish
-    ensures { result ≡ finish_of (stop_of stand) }
-{
-    match stand {
-        Stand::Budget => Finish::Budget,
-        Stand::Exited(_) => Finish::Done,
-        Stand::Fault(_) => Finish::Fault,
-    }
 }
 
 /// The end of the work, by how the guest stands. The error is want of memory.

@@ -19,7 +19,7 @@ returns-in-Ok-Build g c =
 
 pub returns-in-Ok-Run : goal.returns-in-Ok-Run
 returns-in-Ok-Run g c =
-    run_for (map string_bytes c.args.words.now) c.in-Ok-Run.steps c.in-Ok-Run.e.now (map string_bytes c.in-Ok-Run.args.now) c.word_of_guest-word.result _ _ _ (c.in-Ok-Run.ensures ∙ ap (λ x. Ok (asked_of x)) c.in-Ok-Run.field-0-is) c.word_of_guest-word.ensures c.run_command.ensures
+    run_for (map string_bytes c.args.words.now) c.in-Ok-Run.steps c.in-Ok-Run.e.now (map string_bytes c.in-Ok-Run.args.now) c.first_name-word.result _ _ _ (c.in-Ok-Run.ensures ∙ ap (λ x. Ok (asked_of x)) c.in-Ok-Run.field-0-is) c.first_name-word.ensures c.run_command.ensures
 
 pub returns-in-Err : goal.returns-in-Err
 returns-in-Err g c = no_command (map string_bytes c.args.words.now) c.in-Err.at _ c.in-Err.ensures

@@ -1,0 +1,57 @@
+-- Original files whose runs are traced, and their traces, as parts of plans.
+use Rattle.std.specs.Prelude.{ℕ, ◌+◌, nat_le, cond, List, [], ◌∷◌, ◌++◌, length, sum, map, codes, Result, Ok, Err}
+use Rattle.std.specs.Fmt.{decimal}
+use Rattle.sha2.specs.Sha256.{sha256}
+use Rattle.elf_read.specs.Elf.{elf}
+use Rattle.elf_read.specs.Elf as elf_file
+use Rattle.elf_read.specs.declared.exe.Exe.{Exe}
+use Rattle.elf_read.specs.declared.exe.Reach.TheVariants.{Original}
+use Rattle.trace_file.specs.Edges.{Edge, union_of}
+use Rattle.trace_file.specs.Trace.{trace, trace_bytes}
+use Rattle.trace_file.specs.Trace as trace_file
+use Rattle.binrec.specs.Plans.Plan.{Plan, Ends, Fetches, Stores}
+use Rattle.binrec.specs.Plans.Parts.{checked}
+use Rattle.binrec.specs.declared.acts.stop.Cause.{Cause}
+use Rattle.binrec.specs.declared.acts.stop.Cause.TheVariants.{RefusedWord, Limited}
+use Rattle.binrec.specs.declared.acts.stop.Limit.TheVariants as limits
+use Rattle.binrec.specs.declared.commands.original.Subject.{Subject}
+
+-- what a file says, or its refusal, with the position of its word
+abbrev pub of_word : ℕ → Result Exe elf_file.Refused → Result Exe Cause
+of_word word (Ok exe) = Ok exe
+of_word word (Err refused) = Err (RefusedWord word refused.number refused.place)
+
+-- an original is fetched and read
+abbrev pub original_part : List ℕ → ℕ → (Exe → Plan) → Plan
+original_part name word next = Fetches name 16777216 (λ bytes. checked (of_word word (elf Original bytes)) next)
+
+-- an original and the digest of its file
+abbrev pub with_digest : List ℕ → Result Exe Cause → Result Subject Cause
+with_digest bytes (Ok exe) = Ok (record { exe = exe; digest = sha256 bytes })
+with_digest bytes (Err cause) = Err cause
+
+abbrev pub subject_part : List ℕ → ℕ → (Subject → Plan) → Plan
+subject_part name word next = Fetches name 16777216 (λ bytes. checked (with_digest bytes (of_word word (elf Original bytes))) next)
+
+-- the edges of a trace, or its refusal, with the position of its word
+abbrev pub edges_of_word : ℕ → Result (List Edge) trace_file.Refused → Result (List Edge) Cause
+edges_of_word word (Ok es) = Ok es
+edges_of_word word (Err refused) = Err (RefusedWord word refused.number refused.place)
+
+-- the edges of a trace, unless so many more than those before it are too many
+abbrev pub counted : ℕ → Result (List Edge) Cause → Result (List Edge) Cause
+counted before (Ok es) = cond (nat_le (before + length es) 16777216) (Ok es) (Err (Limited limits.Edges))
+counted before (Err cause) = Err cause
+
+-- a trace of the original with this digest is fetched, read and counted
+abbrev pub trace_part : List ℕ → List ℕ → ℕ → ℕ → (List Edge → Plan) → Plan
+trace_part digest name word before next = Fetches name 16777216 (λ bytes. checked (counted before (edges_of_word word (trace bytes digest))) next)
+
+-- the traces of names, one after another; their words begin at a position
+unfoldable pub traces_part : List ℕ → List (List ℕ) → ℕ → ℕ → (List (List Edge) → Plan) → Plan
+traces_part digest [] word before next = next []
+traces_part digest (name ∷ names) word before next = trace_part digest name word before (λ es. traces_part digest names (word + 1) (before + length es) (λ rest. next (es ∷ rest)))
+
+-- the union of traces, unless it is too large for one
+abbrev pub limited : List Edge → Result (List Edge) Cause
+limited es = cond (nat_le (length es) 2000000) (Ok es) (Err (Limited limits.Union))

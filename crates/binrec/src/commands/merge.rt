@@ -1,0 +1,107 @@
+//! `merge T E T..`: the union of traces, stored under a name.
+ghost use Rattle.std.specs.Prelude.{◌≡◌, ◌≤◌, ◌<◌, ◌+◌, ◌^◌, Ok, IfOk, length, sum, map, string_bytes, List};
+ghost use Rattle.trace_file.specs.Edges.{Edge, union_of};
+ghost use Rattle.trace_file.specs.Trace.{trace_bytes};
+ghost use Rattle.binrec.specs.Plans.World.{World, on_shelf};
+ghost use Rattle.binrec.specs.Plans.Plan.{Went};
+ghost use Rattle.binrec.specs.Plans.Parts.{Goes, Checks};
+ghost use Rattle.binrec.specs.Traces.{limited};
+ghost use Rattle.binrec.specs.Commands.{merge_plan, merged_line, store_part, end_of};
+
+use crate::acts::files::store_file;
+use crate::acts::stop::{Cause, Finish, Limit, Outcome, Stop};
+use crate::commands::original::fetch_subject;
+use crate::commands::traces::fetch_traces;
+use br_outside::Shelf;
+use std::alloc::{AllocError, Global};
+use trace_file::{Edges, write_trace};
+
+/// The most edges that are stored as one trace.
+const UNION_LIMIT: u32 = 2000000;
+
+// PLACEHOLDER until `trace_file::union_all` is there.
+fn union_all(_alloc: Global, _sets: &[Edges]) -> Result<Edges, AllocError>
+    requires { sum (map length _sets.now) ≤ 16777216 }
+    ensures value { IfOk result (λ all. all ≡ union_of _sets.now) }
+{
+    Err(AllocError)
+}
+
+/// The union of traces. The error is the limit on it, or want of memory.
+fn union_of(alloc: Global, traces: Vec<Edges>) -> Result<Edges, Stop>
+    requires { sum (map length traces.items) ≤ 16777216 }
+    ensures checks { Checks (λ es. es) result (limited (union_of traces.items)) }
+    ensures count { IfOk result (λ es. length es ≤ UNION_LIMIT) }
+{
+    let Ok(edges) = union_all(alloc, traces.as_slice()) else {
+        return Err(Stop::Memory);
+    };
+    if edges.len() > UNION_LIMIT {
+        return Err(Stop::Because(Cause::Limited(Limit::Union)));
+    }
+    Ok(edges)
+}
+
+/// The file of a trace. The error is want of memory.
+fn file_of(alloc: Global, edges: &Edges, digest: &[u8; 32]) -> Result<Vec<u8>, Stop>
+    requires { length edges.now ≤ UNION_LIMIT }
+    ensures { Checks (λ v. v.items) result (Ok (trace_bytes edges.now digest.now)) }
+{
+    match write_trace(alloc, edges, digest) {
+        Ok(file) => Ok(file),
+        Err(_) => Err(Stop::Memory),
+    }
+}
+
+/// The report line of a union. The error is want of memory.
+fn line_of(alloc: Global, edges: u32) -> Result<String, Stop>
+    ensures { Checks string_bytes result (Ok (merged_line edges)) }
+{
+    match format!(in alloc; "merged {edges}\n") {
+        Ok(line) => Ok(line),
+        Err(_) => Err(Stop::Memory),
+    }
+}
+
+/// Stores a union under a name. The line is made before the file is stored.
+///
+/// The error is want of memory, after which nothing is stored, or a failure of the shelf.
+fn store_union<F: Shelf>(
+    alloc: Global,
+    shelf: &mut F,
+    target: &str,
+    edges: &Edges,
+    digest: &[u8; 32],
+) -> Result<Outcome, Stop>
+    requires { length edges.now ≤ UNION_LIMIT }
+    ensures { (w : World) → Went (store_part target.now digest.now edges.now) (on_shelf w (F.seen shelf.old)) (end_of result) (on_shelf w (F.seen shelf.new)) }
+{
+    let file = file_of(alloc, edges, digest)?;
+    let line = line_of(alloc, edges.len())?;
+    store_file(shelf, target, file.as_slice())?;
+    Ok(Outcome {
+        finish: Finish::Done,
+        line,
+    })
+}
+
+/// `merge T E T..`: stores the union of the later traces of the original E under the name of the first,
+/// and answers the report line.
+///
+/// The error is the first cause in the order of the work: a failure of the shelf, the limit of a file,
+/// its refusal, the limit on the edges of all traces, the limit on their union, or want of memory.
+pub fn merge_command<F: Shelf>(
+    alloc: Global,
+    shelf: &mut F,
+    target: &str,
+    original: &str,
+    names: &[String],
+) -> Result<Outcome, Stop>
+    requires { length names.now ≤ 4096 }
+    ensures { (w : World) → Went (merge_plan target.now original.now (map string_bytes names.now)) (on_shelf w (F.seen shelf.old)) (end_of result) (on_shelf w (F.seen shelf.new)) }
+{
+    let subject = fetch_subject(alloc, shelf, original, 2)?;
+    let traces = fetch_traces(alloc, shelf, &subject.digest, names, 3)?;
+    let edges = union_of(alloc, traces)?;
+    store_union(alloc, shelf, target, &edges, &subject.digest)
+}
