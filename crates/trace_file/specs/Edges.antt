@@ -51,7 +51,7 @@ abbrev pub union_of : List (List Edge) → List Edge
 union_of [] = []
 union_of (es ∷ sets) = merge es (union_of sets)
 
--- how many pairs sets have, one of several sets counted in each
+-- how many pairs the sets have together, one that several have counted in each
 abbrev pub pairs : List (List Edge) → ℕ
 pairs sets = sum_by length sets
 
@@ -60,7 +60,7 @@ pairs sets = sum_by length sets
 abbrev pub IsInOrder : List Edge → Type 0
 IsInOrder es = ascends es ≡ true
 
--- a list has exactly the edges of which something holds, in order
+-- a list has exactly the edges of which this holds, in order
 pub record IsSetOf (Holds : Edge → Type 0) (made : List Edge) : Type 0 where
   pub order : IsInOrder made
   pub members : (e : Edge) → Contains made e ↔ Holds e
@@ -69,6 +69,8 @@ pub record IsSetOf (Holds : Edge → Type 0) (made : List Edge) : Type 0 where
 abbrev pub IsInSome : List (List Edge) → Edge → Type 0
 IsInSome sets e = (es : List Edge) × Contains sets es × Contains es e
 
+-- edges put in one after another, and the union of sets, are sets of just these edges; and two sets of
+-- the same edges are one list
 pub record SetsHold : Type 0 where
   pub gathered : (es : List Edge) → IsSetOf (Contains es) (in_order es)
   pub united : (sets : List (List Edge)) → All IsInOrder sets → IsSetOf (IsInSome sets) (union_of sets)

@@ -7,8 +7,8 @@ pub fn read_back()
     ensures { ReadsBack }
 {}
 
-/// Edges in any order that are put into a set are exactly its edges, and a union has exactly the edges
-/// of its sets, both in order; and a set's list is the only one of its edges that is in order.
+/// Edges in any order that are put in one after another give a set of exactly these edges, and the union
+/// of sets has exactly the edges that are in some of them; and two sets of the same edges are one list.
 pub fn sets_hold()
     ensures { SetsHold }
 {}

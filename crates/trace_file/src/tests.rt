@@ -101,7 +101,8 @@ fn joins_many(rt: HostRuntime) -> Result<(), Fail> {
         Edges::of_list(vec![in alloc; (0, 7)]?),
         Edges::of_list(vec![in alloc; (0, 7), (10, 0)]?),
     ];
-    let all = union_all(alloc, &sets)?;
+    let sets = sets.as_slice();
+    let all = union_all(alloc, sets)?;
     assert_eq!(rt;
         all.as_slice(),
         [(0, 7), (5, 0), (5, 1), (9, 2), (10, 0)].as_slice()

@@ -6,7 +6,7 @@ use crate::edges::Edges;
 use std::alloc::{AllocError, Global};
 
 /// The edges of all the sets. Together they have at most 16777216, an edge of several counted in each.
-/// The sets are joined by halves, so the time grows as that total times the logarithm of their number.
+/// The sets are joined by halves, so that an edge is copied once for each halving and not for each set.
 ///
 /// The only error is want of memory.
 pub fn union_all(alloc: Global, sets: &[Edges]) -> Result<Edges, AllocError>
