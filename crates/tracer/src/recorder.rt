@@ -36,10 +36,8 @@ impl Recorder {
         ensures { IfOk result (λ r. r ≡ first ∷ []) }
     {
         let mut edges = BTreeSet::new(alloc);
-        match edges.insert(first) {
-            Ok(_) => Ok(Recorder { edges }),
-            Err(failed) => Err(failed.error),
-        }
+        edges.insert(first)?;
+        Ok(Recorder { edges })
     }
 
     /// Records an edge. Errors: `Union` where there would be more than 2000000, and `Memory`; the edges are
