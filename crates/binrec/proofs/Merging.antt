@@ -1,8 +1,8 @@
 -- Traces that are fetched one after another, and their union, which is stored.
-use Rattle.std.proofs.Common.{◌≡◌, ℕ, ◌+◌, ◌<◌, ◌≤◌, List, [], ◌∷◌, ◌++◌, length, drop, map, sum, get_or, Result, Ok, Err, refl, sym, ◌∙◌, ap, subst, arith, append_assoc}
+use Rattle.std.proofs.Common.{◌≡◌, ℕ, ◌+◌, ◌<◌, ◌≤◌, List, [], ◌∷◌, ◌++◌, length, drop, map, get_or, Result, Ok, Err, refl, sym, ◌∙◌, ap, subst, arith, append_assoc}
 use Rattle.std.proofs.lemmas.List.{append-nil, drop_more, drop_all}
-use Rattle.std.proofs.lemmas.List.Sums.{sum-map, sum_by-append}
-use Rattle.trace_file.specs.Edges.{Edge}
+use Rattle.std.proofs.lemmas.List.Sums.{sum_by_push}
+use Rattle.trace_file.specs.Edges.{Edge, pairs}
 use Rattle.trace_file.specs.Trace.{trace_bytes}
 use Rattle.binrec.specs.Plans.World.{World}
 use Rattle.binrec.specs.Plans.Texts.{End}
@@ -22,8 +22,8 @@ pub no_name : {X : Type 0} (text : X → List ℕ) (names : List X) (i : ℕ) �
 no_name text names i past = ap (map text) (drop_all i names past)
 
 -- how many edges there are with those of one more trace
-pub pushed : (traces : List (List Edge)) (es : List Edge) → sum (map length (traces ++ es ∷ [])) ≡ sum (map length traces) + length es
-pushed traces es = sum-map length (traces ++ es ∷ []) ∙ (sum_by-append length traces (es ∷ []) ∙ ap (λ n. n + (length es + 0)) (sym (sum-map length traces)) ∙ ap (λ n. sum (map length traces) + n) (let z : length es + 0 ≡ length es = omega arith in z))
+pub pushed : (traces : List (List Edge)) (es : List Edge) → pairs (traces ++ es ∷ []) ≡ pairs traces + length es
+pushed traces es = sum_by_push length traces es
 
 -- what comes after traces, some of which are there
 abbrev Next : Type 0
@@ -31,6 +31,20 @@ Next = List (List Edge) → Plan
 
 joined : (next : Next) (done : List (List Edge)) (es : List Edge) → (let f : Next = λ rest. next ((done ++ es ∷ []) ++ rest) in f) ≡ (λ rest. next (done ++ (es ∷ rest)))
 joined next done es = simp append_assoc
+
+-- nothing but what is there
+pub traces_begin : (digest : List ℕ) (names : List (List ℕ)) (word before : ℕ) (done : List (List Edge)) (next : List (List Edge) → Plan) (s : World) (o : End) (u : World)
+    → done ≡ [] → Went (traces_part digest names word before (λ rest. next (done ++ rest))) s o u → Went (traces_part digest names word before next) s o u
+traces_begin digest names word before done next s o u is went =
+    let P : List (List Edge) → Type 0 = λ done. Went (traces_part digest names word before (λ rest. next (done ++ rest))) s o u in
+    subst P is went
+
+-- what is there with one more trace
+pub with_trace : (digest : List ℕ) (names : List (List ℕ)) (word before : ℕ) (done done' : List (List Edge)) (next : List (List Edge) → Plan) (s : World) (o : End) (u : World)
+    → done' ≡ done → Went (traces_part digest names word before (λ rest. next (done' ++ rest))) s o u → Went (traces_part digest names word before (λ rest. next (done ++ rest))) s o u
+with_trace digest names word before done done' next s o u is went =
+    let P : List (List Edge) → Type 0 = λ done. Went (traces_part digest names word before (λ rest. next (done ++ rest))) s o u in
+    subst P is went
 
 -- the first of the names is fetched, and the rest follow
 pub traces_on : (digest : List ℕ) (names more : List (List ℕ)) (word before word' before' : ℕ) (name : List ℕ) (es : List Edge) (done : List (List Edge)) (next : List (List Edge) → Plan) (s t : World) (o : End) (u : World)

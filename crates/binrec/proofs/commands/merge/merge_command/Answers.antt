@@ -1,4 +1,4 @@
-use Rattle.std.proofs.Common.{List, map, string_bytes}
+use Rattle.std.proofs.Common.{ℕ, List, map, string_bytes}
 use Rattle.trace_file.specs.Edges.{Edge, union_of}
 use Rattle.binrec.specs.Plans.Plan.{Plan}
 use Rattle.binrec.specs.Commands.{union_part, store_part}
