@@ -1,4 +1,4 @@
-use Rattle.std.proofs.Common.{map, string_bytes, length, Ok, ap, ◌∙◌, arith}
+use Rattle.std.proofs.Common.{map, string_bytes, Ok, ap, ◌∙◌, arith}
 use Rattle.std.proofs.lemmas.List.{length-map}
 use Rattle.word_reader.specs.Reads.{asked_of}
 use Rattle.word_reader.specs.Words.{Builds, Merges}

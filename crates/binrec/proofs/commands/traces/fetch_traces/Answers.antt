@@ -1,5 +1,5 @@
-use Rattle.std.proofs.Common.{◌≡◌, List, ◌+◌, ◌∷◌, ◌++◌, [], length, drop, map, string_bytes, refl, sym, ◌∙◌, ap, arith, rules, lit≤, Vec, Global}
-use Rattle.trace_file.specs.Edges.{Edge, pairs}
+use Rattle.std.proofs.Common.{◌≡◌, ◌+◌, ◌∷◌, ◌++◌, [], length, drop, map, string_bytes, refl, sym, ◌∙◌, ap, arith, rules, lit≤, Vec, Global}
+use Rattle.trace_file.specs.Edges.{pairs}
 use Rattle.trace_file.specs.declared.edges.Edges.{Edges}
 use Rattle.binrec.specs.Traces.{traces_part}
 use Rattle.binrec.proofs.Plans.Runs.{passes_on, runs_out}
