@@ -7,6 +7,8 @@ pub mod Ending
 pub mod RunMeant
 pub mod Runnings
 pub mod Ends
+pub mod Checking
+pub mod Merging
 pub mod Courses
 pub mod Meanings
 pub mod Tops

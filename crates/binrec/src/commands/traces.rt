@@ -1,6 +1,6 @@
 //! Traces that are fetched.
-ghost use Rattle.std.specs.Prelude.{◌≡◌, ◌≤◌, ◌<◌, ◌+◌, ◌^◌, IfOk, length, sum, map, string_bytes};
-ghost use Rattle.trace_file.specs.Edges.{Edge};
+ghost use Rattle.std.specs.Prelude.{◌≤◌, ◌<◌, ◌+◌, ◌^◌, IfOk, length, map, string_bytes};
+ghost use Rattle.trace_file.specs.Edges.{pairs};
 ghost use Rattle.trace_file.specs.Trace.{trace};
 ghost use Rattle.binrec.specs.Plans.World.{World, on_shelf};
 ghost use Rattle.binrec.specs.Plans.Parts.{Goes, Checks};
@@ -98,7 +98,7 @@ pub fn fetch_traces<F: Shelf>(
 ) -> Result<Vec<Edges>, Stop>
     requires few { word + length names.now < 2 ^ 32 }
     ensures goes { (w : World) → Goes (λ v. v.items) (traces_part digest.now (map string_bytes names.now) word 0) (on_shelf w (F.seen shelf.old)) result (on_shelf w (F.seen shelf.new)) }
-    ensures count { IfOk result (λ v. sum (map length v.items) ≤ EDGE_LIMIT) }
+    ensures count { IfOk result (λ v. pairs v.items ≤ EDGE_LIMIT) }
 {
     let mut traces = Vec::new(alloc);
     let mut count = 0;
