@@ -18,7 +18,7 @@ use Rattle.binrec.specs.Plans.Plan.{Plan, Ends, Stores}
 use Rattle.binrec.specs.Plans.Parts.{checked}
 use Rattle.binrec.specs.Plans.Happened.{Happened}
 use Rattle.binrec.specs.Plans.Told.{ends_with, after_fetch, expected, NoInput, HasFailed, IsWhole, Decided, IsExact}
-use Rattle.binrec.specs.Traces.{of_word, with_digest, edges_of_word, counted, traces_part, limited}
+use Rattle.binrec.specs.Traces.{of_word, with_digest, edges_of_word, counted, traces_part}
 use Rattle.binrec.specs.Commands.{done_with, merged_line, store_part, union_part, merge_plan, of_command, plan}
 use Rattle.binrec.specs.Meaning.{OnlySays, HasStored, MergesUnion, MergesEdges, MergesTrace, MergesTraces, MergesRead, MergesContent, MeansMerge}
 use Rattle.binrec.specs.declared.acts.stop.Stop.{Stop}
@@ -31,35 +31,11 @@ use Rattle.binrec.specs.declared.acts.stop.Limit.TheVariants as limits
 use Rattle.binrec.specs.declared.commands.original.Subject.{Subject}
 use Rattle.binrec.proofs.Plans.Steps.{nothing}
 use Rattle.binrec.proofs.RunMeant.{only_says}
-use Rattle.binrec.proofs.Untaken.{untaken}
+use Rattle.binrec.proofs.Untaken.{untaken, merge_quiet}
 
 -- what follows the original
 abbrev merged_part : List ℕ → List (List ℕ) → Subject → Plan
 merged_part target names subject = traces_part subject.digest names 3 0 (λ traces. union_part target subject.digest (union_of traces))
-
--- ---- nothing is asked of the input
-
-checked_quiet : {X : Type 0} (r : Result X Cause) (next : X → Plan) → ((x : X) → NoInput (next x)) → NoInput (checked r next)
-unfolding NoInput
-checked_quiet (Ok x) next h = h x
-checked_quiet (Err cause) next h = tt
-
-traces_quiet : (digest : List ℕ) (names : List (List ℕ)) (word before : ℕ) (next : List (List Edge) → Plan) → ((traces : List (List Edge)) → NoInput (next traces)) → NoInput (traces_part digest names word before next)
-unfolding NoInput traces_part
-traces_quiet digest [] word before next h = h []
-traces_quiet digest (name ∷ names) word before next h = λ bytes. checked_quiet (counted before (edges_of_word word (trace bytes digest))) (λ es. traces_part digest names (word + 1) (before + length es) (λ rest. next (es ∷ rest)))
-    (λ es. traces_quiet digest names (word + 1) (before + length es) (λ rest. next (es ∷ rest)) (λ rest. h (es ∷ rest)))
-
-store_quiet : (target digest : List ℕ) (es : List Edge) → NoInput (store_part target digest es)
-unfolding NoInput
-store_quiet target digest es = tt
-
-pub merge_quiet : (target original : List ℕ) (names : List (List ℕ)) → NoInput (merge_plan target original names)
-unfolding NoInput
-merge_quiet target original names = λ bytes. checked_quiet (with_digest bytes (of_word 2 (elf Original bytes))) (merged_part target names)
-    (λ subject. traces_quiet subject.digest names 3 0 (λ traces. union_part target subject.digest (union_of traces)) (λ traces. checked_quiet (limited (union_of traces)) (store_part target subject.digest) (store_quiet target subject.digest)))
-
--- ---- what was done
 
 -- the shelf tells its files, and nothing was taken of the input
 record IsQuiet (files : Files) (s t : World) : Type 0 where
@@ -95,10 +71,10 @@ union_means target digest es files s result t h w =
     (λ few. has_stored target (trace_bytes es digest) (merged_line (length es)) files s result t h (by.0 few), λ many. says (Because (Limited limits.Union)) files s result t h (by.1 many))
 
 -- what follows a trace means this
-abbrev Follows : (List Edge → Plan) → (List Edge → Type 0) → Files → World → ℕ → World → Type 0
-Follows next means files s result t = (es : List Edge) → Did (next es) files s result t → means es
+abbrev Leads : (List Edge → Plan) → (List Edge → Type 0) → Files → World → ℕ → World → Type 0
+Leads next means files s result t = (es : List Edge) → Did (next es) files s result t → means es
 
-edges_mean : (word before : ℕ) (next : List Edge → Plan) (means : List Edge → Type 0) (files : Files) (s : World) (result : ℕ) (t : World) → IsQuiet files s t → Follows next means files s result t
+edges_mean : (word before : ℕ) (next : List Edge → Plan) (means : List Edge → Type 0) (files : Files) (s : World) (result : ℕ) (t : World) → IsQuiet files s t → Leads next means files s result t
     → (r : Result (List Edge) trace_file.Refused) → Did (checked (counted before (edges_of_word word r)) next) files s result t → MergesEdges r means word before s result t
 unfolding expected
 edges_mean word before next means files s result t h then (Ok es) w =
@@ -107,7 +83,7 @@ edges_mean word before next means files s result t h then (Ok es) w =
     (λ few. then es (by.0 few), λ many. says (Because (Limited limits.Edges)) files s result t h (by.1 many))
 edges_mean word before next means files s result t h then (Err refused) w = says (Because (RefusedWord word refused.number refused.place)) files s result t h w
 
-trace_means : (digest : List ℕ) (word before : ℕ) (next : List Edge → Plan) (means : List Edge → Type 0) (files : Files) (s : World) (result : ℕ) (t : World) → IsQuiet files s t → Follows next means files s result t
+trace_means : (digest : List ℕ) (word before : ℕ) (next : List Edge → Plan) (means : List Edge → Type 0) (files : Files) (s : World) (result : ℕ) (t : World) → IsQuiet files s t → Leads next means files s result t
     → (c : Option (List ℕ)) → IsWhole files [] (after_fetch 16777216 (λ bytes. expected (checked (counted before (edges_of_word word (trace bytes digest))) next) files []) files [] c) s result t → MergesTrace c means digest word before s result t
 trace_means digest word before next means files s result t h then None w = says (Outside objects.Shelf) files s result t h w
 trace_means digest word before next means files s result t h then (Some content) w =

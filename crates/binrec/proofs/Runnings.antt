@@ -22,7 +22,6 @@ use Rattle.binrec.specs.Commands.{run_plan, done_with, merged_line, store_part, 
 use Rattle.binrec.specs.declared.acts.stop.Cause.{Cause}
 use Rattle.binrec.specs.declared.acts.stop.Cause.TheVariants.{Limited}
 use Rattle.binrec.specs.declared.acts.stop.Limit.TheVariants as limits
-use Rattle.binrec.specs.declared.commands.original.Subject.{Subject}
 
 -- no usage
 abbrev pub NoUsage : End → Type 0
@@ -118,28 +117,20 @@ union_passes es = either_passes (nat_le (length es) 2000000) (Ok es) (Err (Limit
 -- ---- the commands
 
 pub run_end : (steps : ℕ) (name : List ℕ) (args : List (List ℕ)) (word : ℕ) → EndsSo (run_plan steps name args word)
-run_end steps name args word = fetch_end name 268435456 (λ bytes. checked (of_word word (elf Guest bytes)) (λ exe. guest_plan steps (beginning exe args)))
-    (λ bytes. checked_end (of_word word (elf Guest bytes)) (λ exe. guest_plan steps (beginning exe args)) (word_passes word (elf Guest bytes)) (λ exe. guest_end steps (beginning exe args)))
+run_end steps name args word = fetch_end name 268435456 _ (λ bytes. checked_end (of_word word (elf Guest bytes)) _ (word_passes word (elf Guest bytes)) (λ exe. guest_end steps (beginning exe args)))
 
 traces_end : (digest : List ℕ) (names : List (List ℕ)) (word before : ℕ) (next : List (List Edge) → Plan) → ((traces : List (List Edge)) → EndsSo (next traces)) → EndsSo (traces_part digest names word before next)
 unfolding traces_part
 traces_end digest [] word before next rest = rest []
-traces_end digest (name ∷ names) word before next rest =
-    let after : List Edge → Plan = λ es. traces_part digest names (word + 1) (before + length es) (λ more. next (es ∷ more)) in
-    fetch_end name 16777216 (λ bytes. checked (counted before (edges_of_word word (trace bytes digest))) after)
-    (λ bytes. checked_end (counted before (edges_of_word word (trace bytes digest))) after (edges_pass word before (trace bytes digest))
+traces_end digest (name ∷ names) word before next rest = fetch_end name 16777216 _ (λ bytes. checked_end (counted before (edges_of_word word (trace bytes digest))) _ (edges_pass word before (trace bytes digest))
     (λ es. traces_end digest names (word + 1) (before + length es) (λ more. next (es ∷ more)) (λ more. rest (es ∷ more))))
 
 union_end : (target digest : List ℕ) (es : List Edge) → EndsSo (union_part target digest es)
-union_end target digest es = checked_end (limited es) (store_part target digest) (union_passes es)
-    (λ es. store_end target (trace_bytes es digest) (Ends (Ok (done_with (merged_line (length es))))) (done_end (merged_line (length es))))
+union_end target digest es = checked_end (limited es) (store_part target digest) (union_passes es) (λ es. store_end target (trace_bytes es digest) _ (done_end (merged_line (length es))))
 
 pub merge_end : (target original : List ℕ) (names : List (List ℕ)) → EndsSo (merge_plan target original names)
-merge_end target original names =
-    let after : Subject → Plan = λ subject. traces_part subject.digest names 3 0 (λ traces. union_part target subject.digest (union_of traces)) in
-    fetch_end original 16777216 (λ bytes. checked (with_digest bytes (of_word 2 (elf Original bytes))) after)
-    (λ bytes. checked_end (with_digest bytes (of_word 2 (elf Original bytes))) after (digest_passes bytes 2 (elf Original bytes))
-    (λ subject. traces_end subject.digest names 3 0 (λ traces. union_part target subject.digest (union_of traces)) (λ traces. union_end target subject.digest (union_of traces))))
+merge_end target original names = fetch_end original 16777216 _ (λ bytes. checked_end (with_digest bytes (of_word 2 (elf Original bytes))) _ (digest_passes bytes 2 (elf Original bytes))
+    (λ subject. traces_end subject.digest names 3 0 _ (λ traces. union_end target subject.digest (union_of traces))))
 
 pub not_1 : (o : End) (m : World) (result : ℕ) (t : World) → NoUsage o → Reported o m result t → result ≡ 1 → ⊥
 not_1 o m result t apart (inl four) one = let z : 4 ≡ 1 = sym four.0 ∙ one in omega (arith, z)
