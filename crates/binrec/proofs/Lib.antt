@@ -5,6 +5,8 @@ pub mod Turning
 pub mod Sparing
 pub mod Ending
 pub mod RunMeant
+pub mod Untaken
+pub mod MergeMeant
 pub mod Runnings
 pub mod Ends
 pub mod Checking

@@ -1,4 +1,4 @@
-use Rattle.std.proofs.Common.{◌≡◌, ◌⊎◌, ◌<◌, ◌≤◌, ◌+◌, nat_le, ℕ, List, [], ◌++◌, length, drop, Option, Some, None, Result, Ok, Err, IsTrue, IfSome, refl, sym, ◌∙◌, ap, subst, inl, inr, arith}
+use Rattle.std.proofs.Common.{◌≡◌, ◌⊎◌, ◌<◌, ◌≤◌, ◌+◌, nat_le, ℕ, List, [], ◌++◌, length, drop, Option, Some, None, Ok, Err, IsTrue, IfSome, refl, sym, ◌∙◌, ap, subst, inl, inr, arith}
 use Rattle.std.specs.Option.{option_map}
 use Rattle.std.proofs.lemmas.Bool.{le-leb, lt-leb, cond-true, cond-false}
 use Rattle.br_outside.specs.Files.{Files, put}
@@ -7,10 +7,9 @@ use Rattle.br_outside.specs.declared.errors.ShelfError.TheVariants as shelf_erro
 use Rattle.br_outside.specs.declared.errors.StoreError.TheVariants as store_errors
 use Rattle.br_outside.specs.declared.errors.SinkError.TheVariants as sink_errors
 use Rattle.binrec.specs.Plans.World.{World, on_shelf, on_out, faults_of, calm_of}
-use Rattle.binrec.specs.Plans.Plan.{Plan, Ends, Fetches, Stores, Prints, Turned, Turns, Went, IsTurned, AfterTurn, GoesOn, FailsInput, FailsOutput, FailsReport, WantsMemory, planned_end}
-use Rattle.binrec.specs.Plans.Texts.{Finished, End}
+use Rattle.binrec.specs.Plans.Plan.{Plan, Ends, Fetches, Stores, Prints, Turned, Turns, Went, IsTurned, AfterTurn, GoesOn, FailsInput, FailsOutput, FailsReport, WantsMemory}
+use Rattle.binrec.specs.Plans.Texts.{End}
 use Rattle.binrec.specs.declared.acts.stop.Stop.TheVariants.{Because, Outside, Memory}
-use Rattle.binrec.specs.declared.acts.stop.Cause.{Cause}
 use Rattle.binrec.specs.declared.acts.stop.Cause.TheVariants.{Limited}
 use Rattle.binrec.specs.declared.acts.stop.Object.{Object}
 use Rattle.binrec.specs.declared.acts.stop.Object.TheVariants as objects
@@ -18,6 +17,7 @@ use Rattle.binrec.specs.declared.acts.stop.Limit.TheVariants as limits
 use Rattle.binrec.specs.Plans.Told.{Ending, ends_with, after_fetch, turned_before, expected, NoFiles, NoInput, IsSparing, LeavesBut, IsTold, HasFailed}
 use Rattle.binrec.proofs.Plans.Steps.{IsKept, nothing, two_texts, shelf_kept, out_kept, rises, fails_later, no_fault}
 use Rattle.binrec.proofs.Plans.Turns.{turned_kept}
+use Rattle.binrec.proofs.Plans.Quiet.{input_stays, leaves_all}
 
 -- a step of a run: the files, the input left, and what it printed and reported
 record IsStep (files : Files) (left : List ℕ) (files' : Files) (left' : List ℕ) (printed reported : List ℕ) (s m : World) : Type 0 where
@@ -129,60 +129,47 @@ stored_files name bytes files s v u was told = was.gives.0 ∙ ap (option_map (p
 input_after : (d : Turned) (left : List ℕ) (s m : World) (h : IsTurned d s m) → s.input.bytes ≡ Some left → m.input.bytes ≡ Some (drop h.more d.left)
 input_after d left s m h has = told_to s.input.bytes left (λ b. m.input.bytes ≡ Some (drop h.more d.left)) has h.input.bytes
 
-none_more : (n k : ℕ) → n ≤ k → k ≡ 0 → n ≡ 0
-none_more n k h e = omega arith
+-- nothing more was taken than the turn uses
+used_alone : (d : Turned) (left : List ℕ) (s m : World) (h : IsTurned d s m) → s.input.bytes ≡ Some left → d.spare ≡ 0 → m.input.bytes ≡ Some d.left
+used_alone d left s m h has none = input_after d left s m h has ∙ ap (λ n. Some (drop n d.left)) (let z : h.more ≡ 0 = omega (arith, h.few) in z)
 
-turned_step : (files : Files) (left : List ℕ) (d : Turned) (s m : World) → IsTurned d s m → d.spare ≡ 0 → IsStep files left files d.left d.printed d.reported s m
-turned_step files left d s m h none = record {
-  kept = turned_kept d s m h;
-  shelf = λ told. ap (λ v. v.files) h.shelf ∙ told;
-  input = λ has. input_after d left s m h has ∙ ap (λ n. Some (drop n d.left)) (none_more h.more d.spare h.few none);
-  out = h.out.bytes;
-  report = h.report.bytes;
-}
-
--- more of the input may be taken
-widened : (files : Files) (left : List ℕ) (k : ℕ) (e : Ending) (s : World) (o : End) (t : World) → Follows files left e s o t → Follows files left (record e { spare = k + e.spare }) s o t
-widened files left k e s o t (inl memory) = inl memory
-widened files left k e s o t (inr (inl failed)) = inr (inl failed)
-widened files left k e s o t (inr (inr done)) = inr (inr (record {
+-- a turn, and then what comes after it; what is left of the input is told apart
+after_turn : (files : Files) (left : List ℕ) (d : Turned) (e : Ending) (s m : World) (o : End) (t : World) → IsTurned d s m
+    → ((m.input.bytes ≡ Some d.left → LeavesBut e.spare e.left t.input.bytes) → s.input.bytes ≡ Some left → LeavesBut (d.spare + e.spare) e.left t.input.bytes)
+    → Follows files d.left e m o t → Follows files left (turned_before d e) s o t
+after_turn files left d e s m o t h input (inl memory) = inl memory
+after_turn files left d e s m o t h input (inr (inl (x, is, failed))) = inr (inl (x, is, fails_later x s m t (turned_kept d s m h) failed))
+after_turn files left d e s m o t h input (inr (inr done)) = inr (inr (record {
   ends = done.ends;
-  shelf = done.shelf;
-  input = λ has. let h = done.input has in (h.0, omega (arith, h.1), h.2);
-  out = done.out;
-  report = done.report;
-  rose = done.rose;
+  shelf = λ told. done.shelf (ap (λ v. v.files) h.shelf ∙ told);
+  input = input done.input;
+  out = two_texts s.out.bytes m.out.bytes t.out.bytes d.printed e.printed h.out.bytes done.out;
+  report = two_texts s.report.bytes m.report.bytes t.report.bytes d.reported e.reported h.report.bytes done.report;
+  rose = λ f. rises s.shelf.faults m.shelf.faults t.shelf.faults ((turned_kept d s m h).later objects.Shelf) (done.rose f);
 }))
 
--- the last turn
-last_turn : (d : Turned) (end : Result Finished Cause) (files : Files) (left : List ℕ) (s m : World) (o : End) (t : World) → s.input.bytes ≡ Some left → IsTurned d s m → Went (Ends end) m o t
-    → Follows files left (turned_before d (expected (Ends end) files d.left)) s o t
-unfolding Went expected
-last_turn d end files left s m o t has h (inl out) = inl out.0
-last_turn d end files left s m o t has h (inr (is, same)) =
-    let P : World → Type 0 = λ t. IsDone files left (turned_before d (ends_with (planned_end end) files d.left)) s o t in
-    inr (inr (subst P (sym same) (record {
-      ends = is;
-      shelf = λ told. ap (λ v. v.files) h.shelf ∙ told;
-      input = λ told. (h.more, omega (arith, h.few), input_after d left s m h told);
-      out = two_texts s.out.bytes m.out.bytes m.out.bytes d.printed [] h.out.bytes (nothing m.out.bytes);
-      report = two_texts s.report.bytes m.report.bytes m.report.bytes d.reported [] h.report.bytes (nothing m.report.bytes);
-      rose = λ f. absurd (no_fault end o objects.Shelf is f);
-    })))
+-- the rest reads on where the turn has stopped to
+reads_on : (d : Turned) (e : Ending) (left : List ℕ) (s m t : World) → IsTurned d s m → d.spare ≡ 0
+    → (m.input.bytes ≡ Some d.left → LeavesBut e.spare e.left t.input.bytes) → s.input.bytes ≡ Some left → LeavesBut (d.spare + e.spare) e.left t.input.bytes
+reads_on d e left s m t h none rest has = let r = rest (used_alone d left s m h has none) in (r.0, omega (arith, r.1), r.2)
+
+-- the rest leaves the input as it is
+reads_no_more : (d : Turned) (q : Plan) (files : Files) (left : List ℕ) (s m : World) (o : End) (t : World) → IsTurned d s m → NoInput q → Went q m o t
+    → s.input.bytes ≡ Some left → LeavesBut (d.spare + (expected q files d.left).spare) (expected q files d.left).left t.input.bytes
+reads_no_more d q files left s m o t h quiet went has =
+    (h.more, omega (arith, h.few), ap (λ v. v.bytes) (input_stays q m o t quiet went) ∙ (input_after d left s m h has ∙ ap (λ l. Some (drop h.more l)) (sym (leaves_all q files d.left quiet))))
 
 -- a turn, and what follows by what comes after it
 turn_follows : (d : Turned) (q : Plan) (files : Files) (left : List ℕ) (s : World) (o : End) (t : World) → s.input.bytes ≡ Some left → NoFiles q ⊎ (s.shelf.files ≡ Some files)
-    → (d.spare ≡ 0) ⊎ ((end : Result Finished Cause) × (q ≡ Ends end))
+    → (d.spare ≡ 0) ⊎ NoInput q
     → ((m : World) → IsTold q files d.left m → Went q m o t → Follows files d.left (expected q files d.left) m o t)
     → AfterTurn d left (Went q) s o t → Follows files left (turned_before d (expected q files d.left)) s o t
 turn_follows d q files left s o t has shelf (inl none) then (GoesOn m h went) =
-    let step : IsStep files left files d.left d.printed d.reported s m = turned_step files left d s m h none in
-    widened files left d.spare _ s o t (after files left files d.left d.printed d.reported (expected q files d.left) s m o t step
-    (then m (record { shelf = either shelf (λ a. a) (λ b. ap (λ v. v.files) h.shelf ∙ b); input = inr (step.input has) }) went))
-turn_follows d q files left s o t has shelf (inr (end, is)) then (GoesOn m h went) =
-    let P : Plan → Type 0 = λ q. Follows files left (turned_before d (expected q files d.left)) s o t in
-    let Q : Plan → Type 0 = λ q. Went q m o t in
-    subst P (sym is) (last_turn d end files left s m o t has h (subst Q is went))
+    after_turn files left d (expected q files d.left) s m o t h (λ rest has. reads_on d (expected q files d.left) left s m t h none rest has)
+    (then m (record { shelf = either shelf (λ a. a) (λ b. ap (λ v. v.files) h.shelf ∙ b); input = inr (used_alone d left s m h has none) }) went)
+turn_follows d q files left s o t has shelf (inr quiet) then (GoesOn m h went) =
+    after_turn files left d (expected q files d.left) s m o t h (λ rest has. reads_no_more d q files left s m o t h quiet went has)
+    (then m (record { shelf = either shelf (λ a. a) (λ b. ap (λ v. v.files) h.shelf ∙ b); input = inl quiet }) went)
 turn_follows d q files left s o t has shelf sparing then (FailsInput h) = inr (inl (objects.Input, h.ends, record { rose = h.fails.rose; loud = h.fails.uncalm }))
 turn_follows d q files left s o t has shelf sparing then (FailsOutput h) = inr (inl (objects.Output, h.ends, record { rose = h.fails.rose; loud = h.fails.uncalm }))
 turn_follows d q files left s o t has shelf sparing then (FailsReport h) = inr (inl (objects.Report, h.ends, record { rose = h.fails.rose; loud = h.fails.uncalm }))

@@ -1,13 +1,12 @@
 -- What a plan comes to over objects that tell what they hold, where nothing fails, and what this says of a run.
-use Rattle.std.specs.Prelude.{◌≡◌, ◌⊎◌, ◌<◌, ◌≤◌, ◌+◌, ◌-◌, ◌^◌, nat_le, ℕ, List, [], ◌++◌, length, drop, Option, Some, None, Result, Err, cond, IsTrue}
+use Rattle.std.specs.Prelude.{◌≡◌, ◌⊎◌, ◌<◌, ◌≤◌, ◌+◌, ◌-◌, ◌^◌, nat_le, ℕ, List, [], ◌++◌, length, drop, Option, Some, None, Err, cond, IsTrue}
 use Rattle.std.specs.Option.{option_map}
 use Rattle.br_outside.specs.Files.{Files, put}
 use Rattle.br_outside.specs.Outside.{Rose}
 use Rattle.binrec.specs.Plans.World.{World, faults_of, calm_of}
 use Rattle.binrec.specs.Plans.Plan.{Plan, Ends, Fetches, Stores, Prints, Turned, Turns, planned_end}
-use Rattle.binrec.specs.Plans.Texts.{Finished, End, end_text, end_status, object_text}
+use Rattle.binrec.specs.Plans.Texts.{End, end_text, end_status, object_text}
 use Rattle.binrec.specs.declared.acts.stop.Stop.TheVariants.{Because, Outside}
-use Rattle.binrec.specs.declared.acts.stop.Cause.{Cause}
 use Rattle.binrec.specs.declared.acts.stop.Cause.TheVariants.{Limited}
 use Rattle.binrec.specs.declared.acts.stop.Limit.TheVariants as limits
 use Rattle.binrec.specs.declared.acts.stop.Object.{Object}
@@ -60,13 +59,13 @@ NoInput (Stores name bytes next) = NoInput next
 NoInput (Prints text next) = NoInput next
 NoInput (Turns turn next) = ⊥
 
--- a turn after which more of the input may be taken than it uses is the last one
+-- a turn after which more of the input may be taken than it uses is the last one that reads
 unfoldable pub IsSparing : Plan → Type 0
 IsSparing (Ends end) = Unit {0}
 IsSparing (Fetches name limit next) = (bytes : List ℕ) → IsSparing (next bytes)
 IsSparing (Stores name bytes next) = IsSparing next
 IsSparing (Prints text next) = IsSparing next
-IsSparing (Turns turn next) = (left : List ℕ) → IsSparing (next left) × (((turn left).spare ≡ 0) ⊎ ((end : Result Finished Cause) × (next left ≡ Ends end)))
+IsSparing (Turns turn next) = (left : List ℕ) → IsSparing (next left) × (((turn left).spare ≡ 0) ⊎ NoInput (next left))
 
 -- The objects that the plan asks tell these contents.
 pub record IsTold (plan : Plan) (files : Files) (left : List ℕ) (s : World) : Type 0 where

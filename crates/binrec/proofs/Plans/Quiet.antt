@@ -1,0 +1,50 @@
+-- A plan that asks nothing of the input.
+use Rattle.std.proofs.Common.{◌≡◌, nat_le, ℕ, List, length, Option, Some, None, Bool, true, false, cond, Ok, Err, refl, ap, inl, inr}
+use Rattle.br_outside.specs.Files.{Files, put}
+use Rattle.br_outside.specs.declared.errors.ShelfError.TheVariants as shelf_errors
+use Rattle.br_outside.specs.declared.errors.StoreError.TheVariants as store_errors
+use Rattle.br_outside.specs.declared.errors.SinkError.TheVariants as sink_errors
+use Rattle.binrec.specs.Plans.World.{World, on_shelf, on_out}
+use Rattle.binrec.specs.Plans.Plan.{Plan, Ends, Fetches, Stores, Prints, Turns, Went}
+use Rattle.binrec.specs.Plans.Texts.{End}
+use Rattle.binrec.specs.Plans.Told.{Ending, ends_with, after_fetch, expected, NoInput}
+use Rattle.binrec.specs.declared.acts.stop.Stop.TheVariants.{Because}
+use Rattle.binrec.specs.declared.acts.stop.Cause.TheVariants.{Limited}
+use Rattle.binrec.specs.declared.acts.stop.Limit.TheVariants as limits
+
+-- it leaves the input as it is
+pub input_stays : (p : Plan) (s : World) (o : End) (t : World) → NoInput p → Went p s o t → t.input ≡ s.input
+unfolding Went NoInput
+input_stays (Ends end) s o t quiet (inl out) = ap (λ w. w.input) out.1
+input_stays (Ends end) s o t quiet (inr (is, same)) = ap (λ w. w.input) same
+input_stays (Fetches name limit next) s o t quiet (inl out) = ap (λ w. w.input) out.1
+input_stays (Fetches name limit next) s o t quiet (inr (v, Ok bytes, was, went)) = input_stays (next bytes) (on_shelf s v) o t (quiet bytes) went
+input_stays (Fetches name limit next) s o t quiet (inr (v, Err shelf_errors.Failed, was, went)) = ap (λ w. w.input) went.1
+input_stays (Fetches name limit next) s o t quiet (inr (v, Err shelf_errors.TooLong, was, went)) = ap (λ w. w.input) went.1
+input_stays (Fetches name limit next) s o t quiet (inr (v, Err shelf_errors.Memory, was, went)) = ap (λ w. w.input) went.1
+input_stays (Stores name bytes next) s o t quiet (inl out) = ap (λ w. w.input) out.1
+input_stays (Stores name bytes next) s o t quiet (inr (v, Ok u, was, went)) = input_stays next (on_shelf s v) o t quiet went
+input_stays (Stores name bytes next) s o t quiet (inr (v, Err store_errors.Failed, was, went)) = ap (λ w. w.input) went.1
+input_stays (Stores name bytes next) s o t quiet (inr (v, Err store_errors.Memory, was, went)) = ap (λ w. w.input) went.1
+input_stays (Prints text next) s o t quiet (inl out) = ap (λ w. w.input) out.1
+input_stays (Prints text next) s o t quiet (inr (v, Ok u, was, went)) = input_stays next (on_out s v) o t quiet went
+input_stays (Prints text next) s o t quiet (inr (v, Err sink_errors.Failed, was, went)) = ap (λ w. w.input) went.1
+input_stays (Prints text next) s o t quiet (inr (v, Err sink_errors.Memory, was, went)) = ap (λ w. w.input) went.1
+input_stays (Turns turn next) s o t quiet went = absurd quiet
+
+after_fetch_all : (limit : ℕ) (next : List ℕ → Ending) (files : Files) (left : List ℕ) → ((bytes : List ℕ) → (next bytes).left ≡ left) → (c : Option (List ℕ)) → (after_fetch limit next files left c).left ≡ left
+after_fetch_all limit next files left all None = refl
+after_fetch_all limit next files left all (Some bytes) = by_test (nat_le (length bytes) limit)
+  where
+    by_test : (b : Bool) → (cond b (next bytes) (ends_with (Err (Because (Limited (limits.File limit)))) files left)).left ≡ left
+    by_test true = all bytes
+    by_test false = refl
+
+-- it comes to an end with all of the input left
+pub leaves_all : (p : Plan) (files : Files) (left : List ℕ) → NoInput p → (expected p files left).left ≡ left
+unfolding expected NoInput
+leaves_all (Ends end) files left quiet = refl
+leaves_all (Fetches name limit next) files left quiet = after_fetch_all limit (λ bytes. expected (next bytes) files left) files left (λ bytes. leaves_all (next bytes) files left (quiet bytes)) (files name)
+leaves_all (Stores name bytes next) files left quiet = leaves_all next (put name (Some bytes) files) left quiet
+leaves_all (Prints text next) files left quiet = leaves_all next files left quiet
+leaves_all (Turns turn next) files left quiet = absurd quiet
