@@ -1,19 +1,21 @@
 //! The top call.
-ghost use Rattle.std.specs.Prelude.{◌≡◌, ℕ, List, [], Ok, map, string_bytes};
+ghost use Rattle.std.specs.Prelude.{◌≡◌, ℕ, ◌+◌, List, [], Ok, map, string_bytes};
 ghost use Rattle.binrec.specs.Plans.World.{world};
 ghost use Rattle.binrec.specs.Plans.Plan.{Went};
 ghost use Rattle.binrec.specs.Plans.Happened.{Happened};
 ghost use Rattle.binrec.specs.Plans.Told.{IsExact, IsComplete, HasCause};
-ghost use Rattle.word_reader.specs.Words.{Builds, Runs, Merges};
+ghost use Rattle.word_reader.specs.Words.{Builds, Traces, Runs, Merges};
 ghost use Rattle.binrec.specs.Words.{asked_by, first_name};
 ghost use Rattle.binrec.specs.Commands.{plan, end_of};
 ghost use Rattle.binrec.specs.Meaning.{MeansBuild, MeansRun, MeansMerge, MeansUsage};
+ghost use Rattle.binrec.specs.TraceMeaning.{MeansTrace};
 
 use crate::acts::report::{tell, tell_stop};
 use crate::acts::stop::{Cause, Outcome, Stop};
 use crate::commands::build::build_command;
 use crate::commands::merge::merge_command;
 use crate::commands::run::run_command;
+use crate::commands::trace::trace_command;
 use crate::words::{first_name, read_command};
 use br_outside::{Shelf, Sink, Source};
 use build_core::image_law;
@@ -35,12 +37,26 @@ fn work<F: Shelf, I: Source, O: Sink, R: Sink>(
 ) -> Result<Outcome, Stop>
     ensures { Went (plan (map string_bytes words.now)) (world (F.seen shelf.old) (I.seen input.old) (O.seen out.old) (R.seen report.old)) (end_of result) (world (F.seen shelf.new) (I.seen input.new) (O.seen out.new) (R.seen report.new)) }
 {
-    let word = first_name(words);
+    let first = first_name(words);
     match read_command(words) {
         Ok(Command::Build { n, e, .. }) => build_command(alloc, shelf, n, e),
         Ok(Command::Merge { t, e, traces }) => merge_command(alloc, shelf, t, e, traces),
         Ok(Command::Run { steps, e, args }) => {
-            run_command(alloc, shelf, input, out, report, steps, e, args, word)
+            run_command(alloc, shelf, input, out, report, steps, e, args, first)
+        }
+        Ok(Command::Trace { steps, t, e, args }) => {
+            trace_command(
+                alloc,
+                shelf,
+                input,
+                out,
+                report,
+                steps,
+                t,
+                e,
+                args,
+                first + 1,
+            )
         }
         Ok(_) => Err(Stop::Because(Cause::Usage(0))),
         Err(at) => Err(Stop::Because(Cause::Usage(at))),
@@ -99,6 +115,9 @@ pub fn binrec<F: Shelf, I: Source, O: Sink, R: Sink>(
         (world (F.seen shelf.old) (I.seen input.old) (O.seen out.old) (R.seen report.old)) result.0
         (world (F.seen shelf.new) (I.seen input.new) (O.seen out.new) (R.seen report.new)) }
     ensures run { (steps : ℕ) (name : List ℕ) (args : List (List ℕ)) → asked_by (map string_bytes words.now) ≡ Ok (Runs steps name args) → MeansRun steps name args (first_name (map string_bytes words.now))
+        (world (F.seen shelf.old) (I.seen input.old) (O.seen out.old) (R.seen report.old)) result.0
+        (world (F.seen shelf.new) (I.seen input.new) (O.seen out.new) (R.seen report.new)) }
+    ensures trace { (steps : ℕ) (target original : List ℕ) (args : List (List ℕ)) → asked_by (map string_bytes words.now) ≡ Ok (Traces steps target original args) → MeansTrace steps target original args (first_name (map string_bytes words.now) + 1)
         (world (F.seen shelf.old) (I.seen input.old) (O.seen out.old) (R.seen report.old)) result.0
         (world (F.seen shelf.new) (I.seen input.new) (O.seen out.new) (R.seen report.new)) }
     ensures merge { (target original : List ℕ) (names : List (List ℕ)) → asked_by (map string_bytes words.now) ≡ Ok (Merges target original names) → MeansMerge target original names

@@ -56,7 +56,8 @@ impl Recorder {
 
     /// The edges in order.
     pub fn edges(&self, alloc: Global) -> Result<Edges, AllocError>
-        ensures { IfOk result (λ edges. edges ≡ self.now) }
+        ensures value { IfOk result (λ edges. edges ≡ self.now) }
+        ensures few { IfOk result (λ edges. length edges ≤ edge_limit) }
     {
         let mut list = Vec::with_capacity(alloc, self.edges.len())?;
         for edge in &self.edges {

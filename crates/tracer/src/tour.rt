@@ -1,5 +1,5 @@
 //! A guest runs, and its edges are recorded.
-ghost use Rattle.std.specs.Prelude.{◌≡◌, ◌≤◌, ◌+◌, ◌^◌, true, IfSome, Result, length, map, string_bytes, [], ◌∷◌};
+ghost use Rattle.std.specs.Prelude.{◌≡◌, ◌≤◌, ◌+◌, ◌^◌, true, IfSome, IfOk, Result, length, map, string_bytes, [], ◌∷◌};
 ghost use Rattle.elf_read.specs.Elf.{IsGuest};
 ghost use Rattle.guest_run.specs.Opening.{FitArguments, opening, arguments};
 ghost use Rattle.guest_run.specs.Guest.{beginning, streams};
@@ -64,6 +64,7 @@ pub fn trace<I: Source, O: Sink, E: Sink>(
     requires exe { IsGuest exe.now }
     requires args { FitArguments (map string_bytes args.now) }
     requires budget { budget ≤ 10 ^ 18 }
+    ensures few { IfOk result (λ t. length t.edges ≤ edge_limit) }
     ensures tour { Tour budget (beginning exe.now (map string_bytes args.now)) (first_edge exe.now ∷ []) result
         (streams (I.seen input.old) (O.seen out.old) (E.seen err.old)) (streams (I.seen input.new) (O.seen out.new) (E.seen err.new)) }
 // ensures told { IfSome (I.seen input.old).bytes (λ left. TraceGives result budget exe.now (opening exe.now (arguments (map string_bytes args.now)) left)

@@ -1,7 +1,6 @@
 //! `merge T E T..`: the union of traces, stored under a name.
 ghost use Rattle.std.specs.Prelude.{◌≡◌, ◌≤◌, Ok, IfOk, length, map, string_bytes};
 ghost use Rattle.trace_file.specs.Edges.{pairs, union_of};
-ghost use Rattle.trace_file.specs.Trace.{trace_bytes};
 ghost use Rattle.binrec.specs.Plans.World.{World, on_shelf};
 ghost use Rattle.binrec.specs.Plans.Plan.{Went};
 ghost use Rattle.binrec.specs.Plans.Parts.{Checks};
@@ -11,13 +10,10 @@ ghost use Rattle.binrec.specs.Commands.{merge_plan, merged_line, store_part, end
 use crate::acts::files::store_file;
 use crate::acts::stop::{Cause, Finish, Limit, Outcome, Stop};
 use crate::commands::original::fetch_subject;
-use crate::commands::traces::fetch_traces;
+use crate::commands::traces::{UNION_LIMIT, fetch_traces, file_of};
 use br_outside::Shelf;
 use std::alloc::Global;
-use trace_file::{Edges, union_all, write_trace};
-
-/// The most edges that are stored as one trace.
-const UNION_LIMIT: u32 = 2000000;
+use trace_file::{Edges, union_all};
 
 /// The union of traces. The error is the limit on it, or want of memory.
 fn union_of(alloc: Global, traces: Vec<Edges>) -> Result<Edges, Stop>
@@ -32,17 +28,6 @@ fn union_of(alloc: Global, traces: Vec<Edges>) -> Result<Edges, Stop>
         return Err(Stop::Because(Cause::Limited(Limit::Union)));
     }
     Ok(edges)
-}
-
-/// The file of a trace. The error is want of memory.
-fn file_of(alloc: Global, edges: &Edges, digest: &[u8; 32]) -> Result<Vec<u8>, Stop>
-    requires { length edges.now ≤ UNION_LIMIT }
-    ensures { Checks (λ v. v.items) result (Ok (trace_bytes edges.now digest.now)) }
-{
-    match write_trace(alloc, edges, digest) {
-        Ok(file) => Ok(file),
-        Err(_) => Err(Stop::Memory),
-    }
 }
 
 /// The report line of a union. The error is want of memory.

@@ -35,7 +35,7 @@ pub returns-in-Ok-Run : goal.returns-in-Ok-Run
 returns-in-Ok-Run g c =
     let s = world (g.F.Shelf.seen c.args.shelf.now) (g.I.Source.seen c.args.input.now) (g.O.Sink.seen c.args.out.now) (g.R.Sink.seen c.args.report.now) in
     let t = world (g.F.Shelf.seen c.run_command.new.shelf) (g.I.Source.seen c.run_command.new.input) (g.O.Sink.seen c.run_command.new.out) (g.R.Sink.seen c.run_command.new.report) in
-    run_for (map string_bytes c.args.words.now) c.in-Ok-Run.steps c.in-Ok-Run.e.now (map string_bytes c.in-Ok-Run.args.now) c.first_name-word.result s (end_of c.run_command.result) t (c.in-Ok-Run.ensures ∙ ap (λ x. Ok (asked_of x)) c.in-Ok-Run.field-0-is) c.first_name-word.ensures c.run_command.ensures
+    run_for (map string_bytes c.args.words.now) c.in-Ok-Run.steps c.in-Ok-Run.e.now (map string_bytes c.in-Ok-Run.args.now) c.first_name-first.result s (end_of c.run_command.result) t (c.in-Ok-Run.ensures ∙ ap (λ x. Ok (asked_of x)) c.in-Ok-Run.field-0-is) c.first_name-first.ensures c.run_command.ensures
 
 pub returns-in-Err : goal.returns-in-Err
 returns-in-Err g c = no_command (map string_bytes c.args.words.now) c.in-Err.at _ c.in-Err.ensures
