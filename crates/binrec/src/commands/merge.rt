@@ -1,5 +1,5 @@
 //! `merge T E T..`: the union of traces, stored under a name.
-ghost use Rattle.std.specs.Prelude.{◌≡◌, ◌≤◌, Ok, IfOk, length, map, string_bytes};
+ghost use Rattle.std.specs.Prelude.{◌≤◌, Ok, IfOk, length, map, string_bytes};
 ghost use Rattle.trace_file.specs.Edges.{pairs, union_of};
 ghost use Rattle.binrec.specs.Plans.World.{World, on_shelf};
 ghost use Rattle.binrec.specs.Plans.Plan.{Went};
