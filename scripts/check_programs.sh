@@ -4,7 +4,7 @@
 #   `run` of the executable shows the stored output, standard error and status in the steps that a processor took, and reads
 #   no undefined flag;
 #   `build` without traces, then `run` of what it wrote shows the same in one step more, the jump to the original's entry;
-#   where the commands are there, `trace` shows the same and stores a file, `merge` joins the traces of all cases of a program,
+#   where the commands are there, `trace` shows the same and stores a file, `merge` joins the traces of all cases of a program to the set of their pairs,
 #   `build` with the traces and with the joined one writes the same file, and `run` of that file shows the same,
 #   also where the segments of the original in it may not be executed: every path of a traced run is recovered code;
 #   and every case over the file built with the trace of one case alone, most of whose paths leave for the original;
@@ -127,13 +127,24 @@ trace_cases() {
     done
 }
 
+# The pairs of trace files as lines.
+pairs_of() { for file; do tail -c +45 "$file" | od -An -v -tx4 -w8 --endian=little; done; }
+
+# The traces of all cases joined: the pairs are those of the traces, each once, in order, and as many as is told.
+merge_traces() {
+    local traces=("${cases[@]/#/trace-}") line
+    line=$("${tool[@]}" merge joined E "${traces[@]}" 2>&1 < /dev/null) || line="status $?: $line"
+    pairs_of "${traces[@]}" | LC_ALL=C sort -u > want.pairs
+    if [ "$line" = "merged $(wc -l < want.pairs)" ]; then pass; else fail "$program: merge: $line"; fi
+    if pairs_of joined | cmp -s - want.pairs; then pass; else fail "$program: the joined trace has other pairs"; fi
+    if head -c 40 joined | cmp -s - <(head -c 40 "${traces[0]}"); then pass; else fail "$program: the joined trace is of another original"; fi
+}
+
 # The file built with traces; where `merge` is there, the file of the joined traces is the same.
 build_traced() {
-    local traces=("${cases[@]/#/trace-}") line
+    local traces=("${cases[@]/#/trace-}")
     check_build "$program: build with traces" N E "${traces[@]}" || return 1
     [ "$has_merge" = 1 ] || return 0
-    line=$("${tool[@]}" merge joined E "${traces[@]}" 2>&1 < /dev/null)
-    if [ $? = 0 ] && [[ $line =~ ^merged\ [0-9]+$ ]]; then pass; else fail "$program: merge: $line"; fi
     check_build "$program: build with the joined trace" J E joined || return 1
     if cmp -s N J; then pass; else fail "$program: the joined trace gives another file"; fi
 }
@@ -165,6 +176,11 @@ has_merge=0
 ! knows merge || has_merge=1
 has_trace=0
 if knows trace; then has_trace=1; else skip 'with traces: the program has no command trace yet'; fi
+builds_traced=1
+if [ "$has_trace" = 1 ] && [ "$("${tool[@]}" build N E T 2>&1 < /dev/null)" = 'usage 3' ]; then
+    builds_traced=0
+    skip 'build with traces: the program takes none yet'
+fi
 
 for binary in "$programs"/bin/*; do
     program=$(basename "$binary")
@@ -174,6 +190,8 @@ for binary in "$programs"/bin/*; do
     check_build "$program: build" N E && run_cases N 'its recompiled file' 1
     [ "$has_trace" = 1 ] || continue
     trace_cases
+    [ "$has_merge" = 0 ] || merge_traces
+    [ "$builds_traced" = 1 ] || continue
     build_traced || continue
     run_cases N 'its recompiled file with traces' any
     check_coverage N

@@ -154,23 +154,90 @@ machine_rows() {
     if [ $? = 3 ] && [ "$(cat got.err)" = 'outside output' ]; then pass; else fail "an output that cannot be written: $(cat got.err)"; fi
 }
 
+# Whether `build` takes traces already.
+builds_traced() { [ "$("${tool[@]}" build N X1 T1 2>&1 < /dev/null)" != 'usage 3' ]; }
+
 trace_rows() {
     row 'trace' 0 'hi\n' 'exit 0 steps 8 undefined 0 edges 1\n' trace T1 X1
-    if [ "$(head -c 7 T1)" = BRTRACE ]; then pass; else fail 'a trace file begins with BRTRACE'; fi
+    trace_file T0 X1 1 0 08048054
+    if cmp -s T0 T1; then pass; else fail "the trace of a run without transfers: $(od -An -tx1 T1 | tr -d '\n')"; fi
     row 'a budget for a trace' 6 '' 'budget steps 10 undefined 0 edges 2\n' trace --steps 10 T9 turn
-    if [ -s T9 ]; then pass; else fail 'a trace whose budget is met is stored'; fi
-    row_keeping 'a trace of another file' 2 '' 'refused word 3 22 8\n' build N X1 T9
-    row_keeping 'a file that is no trace' 2 '' 'refused word 3 21 0\n' build N X1 X1
-    knows merge || return
+    trace_file T0 turn 2 0 08048054 08048054 08048054
+    if cmp -s T0 T9; then pass; else fail 'a trace whose budget is met is stored'; fi
+    row 'a fault in a traced run' 5 'hi\n' 'fault divide 08048079 steps 9 undefined 0 edges 1\n' trace T8 divide
+    trace_file T0 divide 1 0 08048054
+    if cmp -s T0 T8; then pass; else fail 'the trace of a run that faults is stored'; fi
+    executable untaken "39c0 7500 $exit_code"
+    row 'a jump that is not taken' 0 '' 'exit 0 steps 5 undefined 0 edges 2\n' trace T7 untaken
+    trace_file T0 untaken 2 0 08048054 08048056 08048058
+    if cmp -s T0 T7; then pass; else fail 'the edge of a jump that is not taken is recorded'; fi
+    row_keeping 'a traced file below the lowest address' 2 '' 'refused word 2 9 52\n' trace N low
+    row_keeping 'the same with a budget' 2 '' 'refused word 4 9 52\n' trace --steps 9 N low
+    row_keeping 'a traced file over the limit' 7 '' 'limit file 16777216\n' trace N long
+    row_keeping 'an absent original' 3 '' 'outside shelf\n' trace N absent
+    row 'a trace into a folder that is not there' 3 'hi\n' 'outside shelf\n' trace nowhere/N X1
+    row 'a trace without an original' 1 '' 'usage 2\n' trace T1
+}
+
+# A trace file: NAME ORIGINAL COUNT, and then hexadecimal numbers of 32 bits, two a pair.
+trace_file() {
+    local name=$1 original=$2 count=$3
+    shift 3
+    { printf BRTRACE1; bytes "$(sha256sum < "$original" | cut -c 1-64) $(word "$count") $(for number; do word $((16#$number)); done)"; } > "$name"
+}
+
+merge_rows() {
     row 'merge' 0 '' 'merged 1\n' merge T2 X1 T1 T1
-    [ "$(head -c 8 T1)" = BRTRACE1 ] || return
     if cmp -s T1 T2; then pass; else fail 'a trace joined with itself is another file'; fi
+    trace_file T3 X1 2 0 08048053 5 0
+    trace_file T4 X1 2 0 08048054 5 1
+    row 'merge of two' 0 '' 'merged 4\n' merge T2 X1 T3 T4
+    trace_file T0 X1 4 0 08048053 0 08048054 5 0 5 1
+    if cmp -s T0 T2; then pass; else fail 'two traces joined: another file'; fi
+    row 'merge over one of its traces' 0 '' 'merged 4\n' merge T3 X1 T4 T3
+    if cmp -s T0 T3; then pass; else fail 'the file that is read is the file that is written: another file'; fi
+    row 'merge of none' 0 '' 'merged 0\n' merge T2 X1
+    trace_file T0 X1 0
+    if cmp -s T0 T2; then pass; else fail 'no traces joined: another file'; fi
+    refused_traces merge
+    row_keeping 'an absent trace' 3 '' 'outside shelf\n' merge N X1 T1 absent
+    row_keeping 'a trace over the limit' 7 '' 'limit file 16777216\n' merge N X1 long
+    row_keeping 'too many edges in all' 7 '' 'limit edges 16777216\n' merge N X1 $(yes large | head -n 9)
+    row_keeping 'too many edges in one' 7 '' 'limit union 2000000\n' merge N X1 half other
+}
+
+# Traces of many pairs: `large` has as many as a trace may have, and `half` and `other` have together too many.
+large_traces() {
+    { trace_head 2000000; seq 1 2000000 | pairs; } > large
+    { trace_head 1500000; seq 1 1500000 | pairs; } > half
+    { trace_head 1500000; seq 1500001 3000000 | pairs; } > other
+}
+trace_head() { trace_file head X1 "$1"; cat head; }
+pairs() { perl -ne 'print pack("VV", $_, 0)'; }
+
+# The refusals of a trace by a command that fetches it as word 3.
+refused_traces() {
+    { printf A; tail -c +2 T1; } > magic
+    row_keeping "$1: a wrong first byte of a trace" 2 '' 'refused word 3 21 0\n' "$1" N X1 magic
+    head -c 51 T1 > short
+    row_keeping "$1: a trace of 51 bytes" 2 '' 'refused word 3 23 51\n' "$1" N X1 short
+    { head -c 8 T1; printf '\0'; tail -c +10 T1; } > digest
+    row_keeping "$1: a changed digest" 2 '' 'refused word 3 22 8\n' "$1" N X1 digest
+    trace_file twice X1 2 0 08048054 0 08048054
+    row_keeping "$1: a pair twice" 2 '' 'refused word 3 24 52\n' "$1" N X1 twice
+    { cat T1; printf '\0'; } > longer
+    row_keeping "$1: one byte more" 2 '' 'refused word 3 25 52\n' "$1" N X1 longer
+    trace_file many X1 2000001 0 08048054
+    row_keeping "$1: too many pairs" 2 '' 'refused word 3 26 40\n' "$1" N X1 many
+    row_keeping "$1: a trace of another file" 2 '' 'refused word 3 22 8\n' "$1" N X1 T9
+    row_keeping "$1: a file that is no trace" 2 '' 'refused word 3 21 0\n' "$1" N X1 X1
+    row_keeping "$1: the second trace" 2 '' 'refused word 4 24 52\n' "$1" N X1 T1 twice
 }
 
 traced_rows() {
     local line
+    refused_traces build
     line=$("${tool[@]}" build N2 X1 T1 2>&1)
-    [[ $line =~ ^built\ 0\  ]] && { skip 'build with traces: the program makes no blocks yet'; return; }
     if [[ $line =~ ^built\ 5\ [0-9]+\ 8313$ ]]; then pass; else fail "build with a trace: $line"; fi
     "${tool[@]}" run N2 > got.out 2> got.err
     if [ "$(cat got.out)" = hi ] && [[ $(cat got.err) =~ ^exit\ 0\ steps\ [0-9]+\ undefined\ 0$ ]]; then pass; else fail "run of the file with a trace: $(cat got.err)"; fi
@@ -207,9 +274,17 @@ else
 fi
 if knows trace; then
     trace_rows
-    traced_rows
+    if builds_traced; then traced_rows; else skip 'build with traces: the program takes none yet'; fi
 else
     skip 'traces: the program has no command trace yet'
+fi
+if ! knows merge; then
+    skip 'merge: the program has no such command yet'
+elif command -v perl > /dev/null; then
+    large_traces
+    merge_rows
+else
+    skip 'merge: no perl to make large traces'
 fi
 if knows show; then
     "${tool[@]}" show X1 T1 > got.out 2> got.err

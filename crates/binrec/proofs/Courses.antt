@@ -13,7 +13,8 @@ use Rattle.binrec.specs.Plans.World.{World, on_shelf}
 use Rattle.binrec.specs.Plans.Texts.{End}
 use Rattle.binrec.specs.Plans.Plan.{Went}
 use Rattle.binrec.specs.Plans.Parts.{checked}
-use Rattle.binrec.specs.Commands.{of_word, image_part, build_plan, built_line, done_with}
+use Rattle.binrec.specs.Traces.{of_word}
+use Rattle.binrec.specs.Commands.{image_part, build_plan, built_line, done_with}
 use Rattle.binrec.proofs.Plans.Steps.{rises}
 use Rattle.binrec.specs.declared.acts.stop.Stop.TheVariants.{Because, Outside, Memory}
 use Rattle.binrec.specs.declared.acts.stop.Cause.TheVariants.{RefusedWord, Limited}

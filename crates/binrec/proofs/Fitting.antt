@@ -1,5 +1,5 @@
--- What the words give `run`: arguments that fit, and a number of steps of at most 18 digits.
-use Rattle.std.proofs.Common.{◌≡◌, ◌<◌, ◌≤◌, ◌+◌, ◌-◌, ◌*◌, ◌^◌, ◌&&◌, ◌||◌, if◌then◌else◌, nat_le, nat_lt, ℕ, suc, Bool, true, false, cond, List, [], ◌∷◌, ◌++◌, length, map, codes, Option, Some, None, Result, Ok, Err, refl, sym, ◌∙◌, ap, subst, arith, lit<, lit≤, length-append}
+-- What the words give a command: arguments that fit, a number of steps of at most 18 digits, and at most 4096 traces.
+use Rattle.std.proofs.Common.{◌≡◌, ◌<◌, ◌≤◌, ◌+◌, ◌-◌, ◌*◌, ◌^◌, ◌&&◌, ◌||◌, if◌then◌else◌, nat_le, nat_lt, not, ℕ, suc, Bool, true, false, cond, List, [], ◌∷◌, ◌++◌, length, map, codes, Option, Some, None, Result, Ok, Err, refl, sym, ◌∙◌, ap, subst, arith, lit<, lit≤, length-append}
 use Rattle.std.proofs.lemmas.Bool.{leb-true, leb-false, ltb-false}
 use Rattle.std.proofs.Math.Nat.{mul-le-mul_right, pow-succ', pow-le-pow_right, mul_assoc}
 use Rattle.std.specs.Str.{bytes_eq}
@@ -9,7 +9,7 @@ use Rattle.word_reader.specs.Numbers.{are_digits, is_digit, number_of_digits, nu
 use Rattle.word_reader.specs.Words.{Asked, Builds, Traces, Runs, Merges, Shows, Sessions, Demos, is_name, next_name, no_more, unless_wrong, or_wrong, first_no_argument, first_no_trace, traces_at, arguments_at, own_bytes, steps_behind, next_steps, build_words, trace_words, run_words, merge_words, show_words, session_words, demo_words, demo_count, command}
 use Rattle.binrec.specs.Words.{built_command, asked_by}
 
--- what `run` is given fits
+-- what a program is run with fits
 pub record Fits (steps : ℕ) (args : List (List ℕ)) : Type 0 where
   pub fit : FitArguments args
   pub few : steps ≤ 10 ^ 18
@@ -72,11 +72,23 @@ fit_words words none =
     let lengths : length (texts (arguments words)) ≡ 6 + length (texts words) = length-append (codes "guest" ++ 0 ∷ []) (texts words) in
     record { count = omega (arith, h.0); bytes = omega (arith, h.1, lengths) }
 
+-- ---- traces
+
+few_traces : (k : ℕ) (words : List (List ℕ)) → first_no_trace k words ≡ None → k ≤ 4096 → k + length words ≤ 4096
+few_traces k [] none few = omega (arith, few)
+few_traces k (word ∷ words) none few =
+    let h = passed (nat_le 4096 k || not (is_name word)) k (first_no_trace (k + 1) words) none in
+    let less : k < 4096 = leb-false 4096 k (neither (nat_le 4096 k) (not (is_name word)) h.0).0 in
+    let rest = few_traces (k + 1) words h.1 (omega (arith, less)) in
+    omega (arith, rest)
+
 -- ---- commands
 
--- a `run` is given what fits
+-- what a command is given fits
 Fit : Result Asked ℕ → Type 0
+Fit (Ok (Traces steps t e args)) = Fits steps args
 Fit (Ok (Runs steps e args)) = Fits steps args
+Fit (Ok (Merges t e names)) = length names ≤ 4096
 Fit (Ok _) = Unit {0}
 Fit (Err at) = Unit {0}
 
@@ -107,10 +119,15 @@ unfolding Fit
 fit_number at None next h = tt
 fit_number at (Some n) next h = h n refl
 
-fit_args : (at steps : ℕ) (e : List ℕ) (words : List (List ℕ)) (o : Option ℕ) → first_no_argument 0 own_bytes words ≡ o → steps ≤ 10 ^ 18 → Fit (unless_wrong at o (Runs steps e words))
+fit_args : (at steps : ℕ) (words : List (List ℕ)) (asked : Asked) (o : Option ℕ) → (Fits steps words → Fit (Ok asked)) → first_no_argument 0 own_bytes words ≡ o → steps ≤ 10 ^ 18 → Fit (unless_wrong at o asked)
 unfolding Fit
-fit_args at steps e words None is few = record { fit = fit_words words is; few = few }
-fit_args at steps e words (Some k) is few = tt
+fit_args at steps words asked None fits is few = fits (record { fit = fit_words words is; few = few })
+fit_args at steps words asked (Some k) fits is few = tt
+
+fit_traces : (at : ℕ) (t e : List ℕ) (words : List (List ℕ)) (o : Option ℕ) → first_no_trace 0 words ≡ o → Fit (unless_wrong at o (Merges t e words))
+unfolding Fit
+fit_traces at t e words None is = (let few = few_traces 0 words is (lit≤ tt) in omega (arith, few))
+fit_traces at t e words (Some k) is = tt
 
 abbrev NextSteps : Type 0
 NextSteps = ℕ → ℕ → List (List ℕ) → Result Asked ℕ
@@ -130,17 +147,18 @@ fit_build words = fit_name 1 words (λ n words. next_name 2 words (λ e words. t
 
 fit_merge : (words : List (List ℕ)) → Fit (merge_words words)
 unfolding Fit
-fit_merge words = fit_name 1 words (λ n words. next_name 2 words (λ e words. traces_at 3 words (Merges n e words))) (λ n words. fit_name 2 words (λ e words. traces_at 3 words (Merges n e words)) (λ e words. fit_wrong 3 (first_no_trace 0 words) (Merges n e words) tt))
+fit_merge words = fit_name 1 words (λ n words. next_name 2 words (λ e words. traces_at 3 words (Merges n e words))) (λ n words. fit_name 2 words (λ e words. traces_at 3 words (Merges n e words)) (λ e words. fit_traces 3 n e words (first_no_trace 0 words) refl))
 
 fit_trace : (words : List (List ℕ)) → Fit (trace_words words)
 unfolding Fit
 fit_trace words = fit_steps words (λ steps at words. next_name at words (λ t words. next_name (at + 1) words (λ e words. arguments_at (at + 2) words (Traces steps t e words))))
     (λ steps at words few. fit_name at words (λ t words. next_name (at + 1) words (λ e words. arguments_at (at + 2) words (Traces steps t e words)))
-    (λ t words. fit_name (at + 1) words (λ e words. arguments_at (at + 2) words (Traces steps t e words)) (λ e words. fit_wrong (at + 2) (first_no_argument 0 own_bytes words) (Traces steps t e words) tt)))
+    (λ t words. fit_name (at + 1) words (λ e words. arguments_at (at + 2) words (Traces steps t e words)) (λ e words. fit_args (at + 2) steps words (Traces steps t e words) (first_no_argument 0 own_bytes words) (λ fits. fits) refl few)))
 
 fit_run : (words : List (List ℕ)) → Fit (run_words words)
+unfolding Fit
 fit_run words = fit_steps words (λ steps at words. next_name at words (λ e words. arguments_at (at + 1) words (Runs steps e words)))
-    (λ steps at words few. fit_name at words (λ e words. arguments_at (at + 1) words (Runs steps e words)) (λ e words. fit_args (at + 1) steps e words (first_no_argument 0 own_bytes words) refl few))
+    (λ steps at words few. fit_name at words (λ e words. arguments_at (at + 1) words (Runs steps e words)) (λ e words. fit_args (at + 1) steps words (Runs steps e words) (first_no_argument 0 own_bytes words) (λ fits. fits) refl few))
 
 fit_show : (words : List (List ℕ)) → Fit (show_words words)
 unfolding Fit
@@ -167,18 +185,30 @@ fit_command (word ∷ words) =
     fit_cond (bytes_eq word (codes "session")) (session_words words) _ (fit_session words) (
     fit_cond (bytes_eq word (codes "demo")) (demo_words words) (Err 0) (fit_demo words) tt))))))
 
--- what is asked for as a `run` was read as one
-read_as_run : (r : Result Asked ℕ) (words : List (List ℕ)) (steps : ℕ) (e : List ℕ) (args : List (List ℕ)) → built_command r words ≡ Ok (Runs steps e args) → r ≡ Ok (Runs steps e args)
-read_as_run (Ok (Builds n e [])) words steps e' args h = absurd (let z : (let x : Result Asked ℕ = Ok (Builds n e []) in x) ≡ Ok (Runs steps e' args) = h in cc)
-read_as_run (Ok (Builds n e (t ∷ ts))) words steps e' args h = absurd (let z : (let x : Result Asked ℕ = Err 3 in x) ≡ Ok (Runs steps e' args) = h in cc)
-read_as_run (Ok (Traces k t e ts)) words steps e' args h = absurd (let z : (let x : Result Asked ℕ = Err 0 in x) ≡ Ok (Runs steps e' args) = h in cc)
-read_as_run (Ok (Runs k e ts)) words steps e' args h = h
-read_as_run (Ok (Merges t e ts)) words steps e' args h = absurd (let z : (let x : Result Asked ℕ = Err 0 in x) ≡ Ok (Runs steps e' args) = h in cc)
-read_as_run (Ok (Shows e ts)) words steps e' args h = absurd (let z : (let x : Result Asked ℕ = Err 0 in x) ≡ Ok (Runs steps e' args) = h in cc)
-read_as_run (Ok (Sessions e)) words steps e' args h = absurd (let z : (let x : Result Asked ℕ = Err 0 in x) ≡ Ok (Runs steps e' args) = h in cc)
-read_as_run (Ok (Demos n)) words steps e' args h = absurd (let z : (let x : Result Asked ℕ = Err 0 in x) ≡ Ok (Runs steps e' args) = h in cc)
-read_as_run (Err at) words steps e' args h = absurd (cc)
+-- what is asked for was read as that
+read_as : (r : Result Asked ℕ) (words : List (List ℕ)) (asked : Asked) → built_command r words ≡ Ok asked → r ≡ Ok asked
+read_as (Ok (Builds n e [])) words asked h = h
+read_as (Ok (Builds n e (t ∷ ts))) words asked h = absurd (let z : (let x : Result Asked ℕ = Err 3 in x) ≡ Ok asked = h in cc)
+read_as (Ok (Traces k t e ts)) words asked h = absurd (let z : (let x : Result Asked ℕ = Err 0 in x) ≡ Ok asked = h in cc)
+read_as (Ok (Runs k e ts)) words asked h = h
+read_as (Ok (Merges t e ts)) words asked h = h
+read_as (Ok (Shows e ts)) words asked h = absurd (let z : (let x : Result Asked ℕ = Err 0 in x) ≡ Ok asked = h in cc)
+read_as (Ok (Sessions e)) words asked h = absurd (let z : (let x : Result Asked ℕ = Err 0 in x) ≡ Ok asked = h in cc)
+read_as (Ok (Demos n)) words asked h = absurd (let z : (let x : Result Asked ℕ = Err 0 in x) ≡ Ok asked = h in cc)
+read_as (Err at) words asked h = absurd (cc)
 
+fit_asked : (words : List (List ℕ)) (asked : Asked) → asked_by words ≡ Ok asked → Fit (Ok asked)
+fit_asked words asked is = subst Fit (read_as (command words) words asked is) (fit_command words)
+
+-- what `run`, `trace` and `merge` are given
 pub asked_fits : (words : List (List ℕ)) (steps : ℕ) (e : List ℕ) (args : List (List ℕ)) → asked_by words ≡ Ok (Runs steps e args) → Fits steps args
 unfolding Fit
-asked_fits words steps e args is = subst Fit (read_as_run (command words) words steps e args is) (fit_command words)
+asked_fits words steps e args is = fit_asked words (Runs steps e args) is
+
+pub trace_fits : (words : List (List ℕ)) (steps : ℕ) (t e : List ℕ) (args : List (List ℕ)) → asked_by words ≡ Ok (Traces steps t e args) → Fits steps args
+unfolding Fit
+trace_fits words steps t e args is = fit_asked words (Traces steps t e args) is
+
+pub merge_fits : (words : List (List ℕ)) (t e : List ℕ) (names : List (List ℕ)) → asked_by words ≡ Ok (Merges t e names) → length names ≤ 4096
+unfolding Fit
+merge_fits words t e names is = fit_asked words (Merges t e names) is

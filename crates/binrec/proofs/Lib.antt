@@ -6,8 +6,12 @@ pub mod Taking
 pub mod Sparing
 pub mod Ending
 pub mod RunMeant
+pub mod Untaken
+pub mod MergeMeant
 pub mod Runnings
 pub mod Ends
+pub mod Checking
+pub mod Merging
 pub mod Courses
 pub mod Meanings
 pub mod Tops

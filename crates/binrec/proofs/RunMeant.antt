@@ -17,7 +17,8 @@ use Rattle.binrec.specs.Plans.Texts.{end_text, end_status, stop_text, stop_statu
 use Rattle.binrec.specs.Plans.Parts.{checked}
 use Rattle.binrec.specs.Plans.Told.{Ending, ends_with, after_fetch, expected, LeavesBut, HasFailed, IsWhole, Decided, IsExact}
 use Rattle.binrec.specs.Guests.{guest_plan, finished}
-use Rattle.binrec.specs.Commands.{of_word, run_plan, of_command, plan}
+use Rattle.binrec.specs.Traces.{of_word}
+use Rattle.binrec.specs.Commands.{run_plan, of_command, plan}
 use Rattle.binrec.specs.Meaning.{HasRun, OnlySays, RunsRead, RunsContent, MeansRun}
 use Rattle.binrec.specs.declared.acts.stop.Stop.{Stop as Why}
 use Rattle.binrec.specs.declared.acts.stop.Stop.TheVariants.{Because, Outside}
@@ -28,16 +29,24 @@ use Rattle.binrec.specs.declared.acts.stop.Limit.TheVariants as limits
 use Rattle.binrec.proofs.Plans.Steps.{nothing}
 use Rattle.binrec.proofs.Ending.{EndsAs, ends_as}
 
--- the work ended before the guest was beginning
-only_says : (stop : Why) (files : Files) (left : List ℕ) (s : World) (result : ℕ) (t : World) → s.shelf.files ≡ Some files → s.input.bytes ≡ Some left
+-- the work ended with a stop, and nothing else was done
+pub only_says : (stop : Why) (files : Files) (left : List ℕ) (s : World) (result : ℕ) (t : World) → s.shelf.files ≡ Some files → t.input.bytes ≡ s.input.bytes
     → IsWhole files left (ends_with (Err stop) files left) s result t → OnlySays (stop_status stop) (stop_text stop) s result t
-only_says stop files left s result t told has w = record {
+only_says stop files left s result t told same w = record {
   status = w.status;
   report = w.report;
   shelf = w.shelf told ∙ sym told;
-  input = (let h : LeavesBut 0 left t.input.bytes = w.input has in let none : h.0 ≡ 0 = omega (arith, h.1) in h.2 ∙ (ap (λ n. Some (drop n left)) none ∙ sym has));
+  input = same;
   out = w.out ∙ sym (nothing s.out.bytes);
 }
+
+-- the work ended before the guest was beginning
+not_begun : (stop : Why) (files : Files) (left : List ℕ) (s : World) (result : ℕ) (t : World) → s.shelf.files ≡ Some files → s.input.bytes ≡ Some left
+    → IsWhole files left (ends_with (Err stop) files left) s result t → OnlySays (stop_status stop) (stop_text stop) s result t
+not_begun stop files left s result t told has w =
+    let h : LeavesBut 0 left t.input.bytes = w.input has in
+    let none : h.0 ≡ 0 = omega (arith, h.1) in
+    only_says stop files left s result t told (h.2 ∙ (ap (λ n. Some (drop n left)) none ∙ sym has)) w
 
 while_le : (x : Stop) (k : ℕ) → while_running x k 0 ≤ k
 while_le Running k = omega arith
@@ -66,16 +75,16 @@ read : (n : ℕ) (args : List (List ℕ)) (word : ℕ) (files : Files) (left : L
     → (r : Result Exe Refused) → IsWhole files left (expected (checked (of_word word r) (λ exe. guest_plan n (beginning exe args))) files left) s result t → RunsRead n args word left r s result t
 unfolding expected
 read n args word files left s result t told has (Ok exe) w = has_run n exe args files left _ s result t told has (ends_as n (beginning exe args) files left (record { out = refl; err = refl })) w
-read n args word files left s result t told has (Err refused) w = only_says (Because (RefusedWord word refused.number refused.place)) files left s result t told has w
+read n args word files left s result t told has (Err refused) w = not_begun (Because (RefusedWord word refused.number refused.place)) files left s result t told has w
 
 fetched : (n : ℕ) (args : List (List ℕ)) (word : ℕ) (files : Files) (left : List ℕ) (s : World) (result : ℕ) (t : World) → s.shelf.files ≡ Some files → s.input.bytes ≡ Some left
     → (c : Option (List ℕ)) → IsWhole files left (after_fetch 268435456 (λ bytes. expected (checked (of_word word (elf Guest bytes)) (λ exe. guest_plan n (beginning exe args))) files left) files left c) s result t
     → RunsContent n args word left c s result t
-fetched n args word files left s result t told has None w = only_says (Outside objects.Shelf) files left s result t told has w
+fetched n args word files left s result t told has None w = not_begun (Outside objects.Shelf) files left s result t told has w
 fetched n args word files left s result t told has (Some content) w =
     let P : Ending → Type 0 = λ e. IsWhole files left e s result t in (
       λ short. read n args word files left s result t told has (elf Guest content) (subst P (cond-true (nat_le (length content) 268435456) _ _ (le-leb (length content) 268435456 short)) w),
-      λ long. only_says (Because (Limited (limits.File 268435456))) files left s result t told has (subst P (cond-false (nat_le (length content) 268435456) _ _ (lt-leb (length content) 268435456 long)) w),
+      λ long. not_begun (Because (Limited (limits.File 268435456))) files left s result t told has (subst P (cond-false (nat_le (length content) 268435456) _ _ (lt-leb (length content) 268435456 long)) w),
     )
 
 decided : (n : ℕ) (name : List ℕ) (args : List (List ℕ)) (word : ℕ) (files : Files) (left : List ℕ) (s : World) (result : ℕ) (t : World) → s.shelf.files ≡ Some files → s.input.bytes ≡ Some left

@@ -1,19 +1,27 @@
--- The ends that `run` can come to.
-use Rattle.std.proofs.Common.{◌≡◌, ℕ, zero, suc, List, Result, Ok, Err, sym, ◌∙◌, subst, inl, inr, arith}
+-- The ends that `run` and `merge` can come to.
+use Rattle.std.proofs.Common.{◌≡◌, ◌+◌, ℕ, zero, suc, nat_le, Bool, true, false, List, [], ◌∷◌, length, Result, Ok, Err, cond, sym, ◌∙◌, subst, inl, inr, arith}
 use Rattle.br_word.specs.State.{Stop, Running, Exited, Faulted}
 use Rattle.br_outside.specs.declared.errors.ShelfError.TheVariants as shelf_errors
+use Rattle.br_outside.specs.declared.errors.StoreError.TheVariants as store_errors
 use Rattle.br_outside.specs.declared.errors.SinkError.TheVariants as sink_errors
 use Rattle.elf_read.specs.Elf.{elf, Refused}
 use Rattle.elf_read.specs.declared.exe.Exe.{Exe}
-use Rattle.elf_read.specs.declared.exe.Reach.TheVariants.{Guest}
+use Rattle.elf_read.specs.declared.exe.Reach.TheVariants.{Original, Guest}
+use Rattle.trace_file.specs.Edges.{Edge, union_of}
+use Rattle.trace_file.specs.Trace.{trace, trace_bytes}
+use Rattle.trace_file.specs.Trace as trace_file
 use Rattle.guest_run.specs.Guest.{GuestView, beginning, while_running}
 use Rattle.binrec.specs.Plans.World.{World, on_shelf}
-use Rattle.binrec.specs.Plans.Texts.{End, end_status, finish_status}
-use Rattle.binrec.specs.Plans.Plan.{Plan, Turns, Went, GoesOn, FailsInput, FailsOutput, FailsReport, WantsMemory}
+use Rattle.binrec.specs.Plans.Texts.{End, end_status, finish_status, cause_status}
+use Rattle.binrec.specs.Plans.Plan.{Plan, Ends, Fetches, Stores, Turns, Went, GoesOn, FailsInput, FailsOutput, FailsReport, WantsMemory}
 use Rattle.binrec.specs.Plans.Parts.{checked}
 use Rattle.binrec.specs.Plans.Happened.{Reported}
 use Rattle.binrec.specs.Guests.{guest_plan, next_guest, next_turn, stands, finish_of}
-use Rattle.binrec.specs.Commands.{of_word, run_plan}
+use Rattle.binrec.specs.Traces.{of_word, with_digest, edges_of_word, counted, traces_part, limited}
+use Rattle.binrec.specs.Commands.{run_plan, done_with, merged_line, store_part, union_part, merge_plan}
+use Rattle.binrec.specs.declared.acts.stop.Cause.{Cause}
+use Rattle.binrec.specs.declared.acts.stop.Cause.TheVariants.{Limited}
+use Rattle.binrec.specs.declared.acts.stop.Limit.TheVariants as limits
 
 -- no usage
 abbrev pub NoUsage : End → Type 0
@@ -54,19 +62,75 @@ unfolding guest_plan
 guest_end zero g = stands_end g
 guest_end (suc n) g = while_end g.state.stop (Turns (next_turn g) (λ left. guest_plan n (next_guest g left))) (stands g) (turns_end n g (λ h. guest_end n h)) (stands_end g)
 
-read_end : (steps : ℕ) (args : List (List ℕ)) (word : ℕ) (r : Result Exe Refused) → EndsSo (checked (of_word word r) (λ exe. guest_plan steps (beginning exe args)))
+-- ---- parts of plans
+
+fetch_end : (name : List ℕ) (limit : ℕ) (next : List ℕ → Plan) → ((bytes : List ℕ) → EndsSo (next bytes)) → EndsSo (Fetches name limit next)
 unfolding Went
-read_end steps args word (Ok exe) s o t went = guest_end steps (beginning exe args) s o t went
-read_end steps args word (Err refused) s o t (inl out) = ends_so o _ out.0 (λ h. omega (arith, h))
-read_end steps args word (Err refused) s o t (inr is) = ends_so o _ is.0 (λ h. omega (arith, h))
+fetch_end name limit next rest s o t (inl out) = ends_so o _ out.0 (λ h. omega (arith, h))
+fetch_end name limit next rest s o t (inr (v, Ok bytes, was, went)) = rest bytes (on_shelf s v) o t went
+fetch_end name limit next rest s o t (inr (v, Err shelf_errors.Failed, was, is)) = ends_so o _ is.0 (λ h. omega (arith, h))
+fetch_end name limit next rest s o t (inr (v, Err shelf_errors.TooLong, was, is)) = ends_so o _ is.0 (λ h. omega (arith, h))
+fetch_end name limit next rest s o t (inr (v, Err shelf_errors.Memory, was, is)) = ends_so o _ is.0 (λ h. omega (arith, h))
+
+store_end : (name bytes : List ℕ) (next : Plan) → EndsSo next → EndsSo (Stores name bytes next)
+unfolding Went
+store_end name bytes next rest s o t (inl out) = ends_so o _ out.0 (λ h. omega (arith, h))
+store_end name bytes next rest s o t (inr (v, Ok u, was, went)) = rest (on_shelf s v) o t went
+store_end name bytes next rest s o t (inr (v, Err store_errors.Failed, was, is)) = ends_so o _ is.0 (λ h. omega (arith, h))
+store_end name bytes next rest s o t (inr (v, Err store_errors.Memory, was, is)) = ends_so o _ is.0 (λ h. omega (arith, h))
+
+done_end : (line : List ℕ) → EndsSo (Ends (Ok (done_with line)))
+unfolding Went
+done_end line s o t (inl out) = ends_so o _ out.0 (λ h. omega (arith, h))
+done_end line s o t (inr is) = ends_so o _ is.0 (λ h. omega (arith, h))
+
+-- a check blames no word for being none
+abbrev Passes : {X : Type 0} → Result X Cause → Type 0
+Passes (Ok x) = Unit {0}
+Passes (Err cause) = cause_status cause ≡ 1 → ⊥
+
+checked_end : {X : Type 0} (r : Result X Cause) (next : X → Plan) → Passes r → ((x : X) → EndsSo (next x)) → EndsSo (checked r next)
+unfolding Went
+checked_end (Ok x) next passes rest s o t went = rest x s o t went
+checked_end (Err cause) next passes rest s o t (inl out) = ends_so o _ out.0 (λ h. omega (arith, h))
+checked_end (Err cause) next passes rest s o t (inr is) = ends_so o _ is.0 passes
+
+either_passes : {X : Type 0} (b : Bool) (x y : Result X Cause) → Passes x → Passes y → Passes (cond b x y)
+either_passes true x y p q = p
+either_passes false x y p q = q
+
+word_passes : (word : ℕ) (r : Result Exe Refused) → Passes (of_word word r)
+word_passes word (Ok exe) = tt
+word_passes word (Err refused) = λ h. omega (arith, h)
+
+digest_passes : (bytes : List ℕ) (word : ℕ) (r : Result Exe Refused) → Passes (with_digest bytes (of_word word r))
+digest_passes bytes word (Ok exe) = tt
+digest_passes bytes word (Err refused) = λ h. omega (arith, h)
+
+edges_pass : (word before : ℕ) (r : Result (List Edge) trace_file.Refused) → Passes (counted before (edges_of_word word r))
+edges_pass word before (Ok es) = either_passes (nat_le (before + length es) 16777216) (Ok es) (Err (Limited limits.Edges)) tt (λ h. omega (arith, h))
+edges_pass word before (Err refused) = λ h. omega (arith, h)
+
+union_passes : (es : List Edge) → Passes (limited es)
+union_passes es = either_passes (nat_le (length es) 2000000) (Ok es) (Err (Limited limits.Union)) tt (λ h. omega (arith, h))
+
+-- ---- the commands
 
 pub run_end : (steps : ℕ) (name : List ℕ) (args : List (List ℕ)) (word : ℕ) → EndsSo (run_plan steps name args word)
-unfolding Went
-run_end steps name args word s o t (inl out) = ends_so o _ out.0 (λ h. omega (arith, h))
-run_end steps name args word s o t (inr (v, Ok bytes, was, went)) = read_end steps args word (elf Guest bytes) (on_shelf s v) o t went
-run_end steps name args word s o t (inr (v, Err shelf_errors.Failed, was, is)) = ends_so o _ is.0 (λ h. omega (arith, h))
-run_end steps name args word s o t (inr (v, Err shelf_errors.TooLong, was, is)) = ends_so o _ is.0 (λ h. omega (arith, h))
-run_end steps name args word s o t (inr (v, Err shelf_errors.Memory, was, is)) = ends_so o _ is.0 (λ h. omega (arith, h))
+run_end steps name args word = fetch_end name 268435456 _ (λ bytes. checked_end (of_word word (elf Guest bytes)) _ (word_passes word (elf Guest bytes)) (λ exe. guest_end steps (beginning exe args)))
+
+traces_end : (digest : List ℕ) (names : List (List ℕ)) (word before : ℕ) (next : List (List Edge) → Plan) → ((traces : List (List Edge)) → EndsSo (next traces)) → EndsSo (traces_part digest names word before next)
+unfolding traces_part
+traces_end digest [] word before next rest = rest []
+traces_end digest (name ∷ names) word before next rest = fetch_end name 16777216 _ (λ bytes. checked_end (counted before (edges_of_word word (trace bytes digest))) _ (edges_pass word before (trace bytes digest))
+    (λ es. traces_end digest names (word + 1) (before + length es) (λ more. next (es ∷ more)) (λ more. rest (es ∷ more))))
+
+union_end : (target digest : List ℕ) (es : List Edge) → EndsSo (union_part target digest es)
+union_end target digest es = checked_end (limited es) (store_part target digest) (union_passes es) (λ es. store_end target (trace_bytes es digest) _ (done_end (merged_line (length es))))
+
+pub merge_end : (target original : List ℕ) (names : List (List ℕ)) → EndsSo (merge_plan target original names)
+merge_end target original names = fetch_end original 16777216 _ (λ bytes. checked_end (with_digest bytes (of_word 2 (elf Original bytes))) _ (digest_passes bytes 2 (elf Original bytes))
+    (λ subject. traces_end subject.digest names 3 0 _ (λ traces. union_end target subject.digest (union_of traces))))
 
 pub not_1 : (o : End) (m : World) (result : ℕ) (t : World) → NoUsage o → Reported o m result t → result ≡ 1 → ⊥
 not_1 o m result t apart (inl four) one = let z : 4 ≡ 1 = sym four.0 ∙ one in omega (arith, z)

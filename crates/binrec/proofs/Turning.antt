@@ -1,5 +1,5 @@
 -- A guest's steps as turns of its plan.
-use Rattle.std.proofs.Common.{◌≡◌, ◌<◌, ◌≤◌, ◌+◌, ℕ, zero, suc, Bool, true, false, IsTrue, List, Ok, Err, refl, sym, ◌∙◌, ap, subst, inr}
+use Rattle.std.proofs.Common.{◌≡◌, ◌<◌, ◌≤◌, ◌+◌, ℕ, zero, suc, Bool, true, false, IsTrue, List, Result, Ok, Err, refl, sym, ◌∙◌, ap, subst, inr}
 use Rattle.br_outside.specs.Outside.{ShelfView, StreamView}
 use Rattle.br_word.specs.State.{State, Stop, Running, Exited, Faulted}
 use Rattle.guest_sys.specs.Streams.{Streams, Tells}
@@ -14,6 +14,8 @@ use Rattle.binrec.specs.Plans.Texts.{End}
 use Rattle.binrec.specs.Plans.Plan.{Plan, Turns, Went, AfterTurn, GoesOn, FailsInput, FailsOutput, FailsReport, WantsMemory}
 use Rattle.binrec.specs.Guests.{last_line, finish_of, next_guest, next_turn, stands, guest_plan, stop_of_error}
 use Rattle.binrec.specs.declared.acts.stop.Finish.{Finish}
+use Rattle.binrec.specs.declared.acts.stop.Cause.{Cause}
+use Rattle.binrec.proofs.Plans.Runs.{ok_same}
 
 -- ---- how a guest stands
 
@@ -56,6 +58,10 @@ has_stopped (suc n) g not = stopped_plan g.state.stop _ _ not
 -- a run of another plan that is the same
 same_plan : (p q : Plan) (s : World) (o : End) (u : World) → p ≡ q → Went q s o u → Went p s o u
 same_plan p q s o u is went = let P : Plan → Type 0 = λ p. Went p s o u in subst P (sym is) went
+
+-- a run of a guest that was made as this one
+pub guest_as : (n : ℕ) (g h : GuestView) (s : World) (o : End) (u : World) → (let r : Result GuestView Cause = Ok g in r) ≡ Ok h → Went (guest_plan n h) s o u → Went (guest_plan n g) s o u
+guest_as n g h s o u is went = let P : GuestView → Type 0 = λ g. Went (guest_plan n g) s o u in subst P (sym (ok_same g h is)) went
 
 turns : (n : ℕ) (g : GuestView) (left : List ℕ) (s : World) (o : End) (u : World) → g.state.stop ≡ Running → Tells left s.input
     → AfterTurn (next_turn g left) left (Went (guest_plan n (next_guest g left))) s o u → Went (guest_plan (suc n) g) s o u

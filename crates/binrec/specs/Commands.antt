@@ -1,5 +1,5 @@
 -- The commands, each as its plan. The first cause in the order of work decides.
-use Rattle.std.specs.Prelude.{ℕ, List, ◌++◌, length, Result, Ok, Err, codes, string_bytes}
+use Rattle.std.specs.Prelude.{ℕ, ◌+◌, List, [], ◌∷◌, ◌++◌, length, Result, Ok, Err, codes, string_bytes}
 use Rattle.std.specs.Fmt.{decimal}
 use Rattle.elf_read.specs.Elf.{elf}
 use Rattle.elf_read.specs.declared.exe.Exe.{Exe}
@@ -10,10 +10,13 @@ use Rattle.build_core.specs.Image.{image}
 use Rattle.binrec.specs.Plans.Plan.{Plan, Ends, Fetches, Stores}
 use Rattle.binrec.specs.Plans.Parts.{checked}
 use Rattle.binrec.specs.Plans.Texts.{Finished, End}
-use Rattle.word_reader.specs.Words.{Asked, Builds, Runs, Merges}
+use Rattle.word_reader.specs.Words.{Asked, Builds, Traces, Runs, Merges}
 use Rattle.guest_run.specs.Guest.{beginning}
 use Rattle.binrec.specs.Words.{asked_by, first_name}
+use Rattle.tracer.specs.declared.answers.Traced.{Traced}
+use Rattle.tracer.specs.Tour.{first_edge}
 use Rattle.binrec.specs.Guests.{guest_plan}
+use Rattle.binrec.specs.Tours.{traced_as, tour_plan}
 use Rattle.binrec.specs.Traces.{of_word, original_part, subject_part, traces_part, limited}
 use Rattle.binrec.specs.declared.acts.stop.Outcome.{Outcome}
 use Rattle.binrec.specs.declared.acts.stop.Finish.TheVariants.{Done}
@@ -52,9 +55,17 @@ guest_part name word next = Fetches name 268435456 (λ bytes. checked (of_word w
 abbrev pub run_plan : ℕ → List ℕ → List (List ℕ) → ℕ → Plan
 run_plan steps name args word = guest_part name word (λ exe. guest_plan steps (beginning exe args))
 
+-- a traced run is stored as a trace of the original with this digest
+abbrev pub traced_part : List ℕ → List ℕ → Traced → Plan
+traced_part target digest t = Stores target (trace_bytes t.edges digest) (Ends (Ok (traced_as t)))
+
+abbrev pub trace_plan : ℕ → List ℕ → List ℕ → List (List ℕ) → ℕ → Plan
+trace_plan steps target original args word = subject_part original word (λ subject. tour_plan (traced_part target subject.digest) steps (beginning subject.exe args) (first_edge subject.exe ∷ []))
+
 -- by the command, and where its first name stands
 abbrev pub asked_plan : Asked → ℕ → Plan
 asked_plan (Builds name original traces) word = build_plan name original
+asked_plan (Traces steps target original args) word = trace_plan steps target original args (word + 1)
 asked_plan (Runs steps name args) word = run_plan steps name args word
 asked_plan (Merges target original names) word = merge_plan target original names
 asked_plan _ word = Ends (Err (Usage 0))

@@ -1,6 +1,8 @@
 pub mod Plans
 pub mod Words
 pub mod Guests
+pub mod Tours
 pub mod Traces
 pub mod Commands
 pub mod Meaning
+pub mod TraceMeaning

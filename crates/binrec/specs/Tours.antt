@@ -5,12 +5,17 @@ use Rattle.br_word.specs.State.{Stop}
 use Rattle.guest_run.specs.Guest.{GuestView, while_running, stop_of}
 use Rattle.trace_file.specs.Edges.{Edge}
 use Rattle.tracer.specs.declared.answers.Traced.{Traced}
+use Rattle.tracer.specs.declared.answers.TracingError.{TracingError}
+use Rattle.tracer.specs.declared.answers.TracingError.TheVariants as errors
 use Rattle.tracer.specs.Tour.{traced, with_step, edge_limit}
 use Rattle.binrec.specs.Plans.Texts.{Finished}
 use Rattle.binrec.specs.Plans.Plan.{Plan, Ends, Turns}
 use Rattle.binrec.specs.Guests.{stand_text, counts_text, finish_of, next_guest, next_turn}
 use Rattle.binrec.specs.declared.acts.stop.Cause.TheVariants.{Limited}
 use Rattle.binrec.specs.declared.acts.stop.Limit.TheVariants as limits
+use Rattle.binrec.specs.declared.acts.stop.Object.TheVariants as objects
+use Rattle.binrec.specs.declared.acts.stop.Stop as work
+use Rattle.binrec.specs.declared.acts.stop.Stop.TheVariants.{Because, Outside, Memory}
 
 -- the last line of `run`, with the number of edges that were recorded
 abbrev pub traced_line : Stop → ℕ → ℕ → ℕ → List ℕ
@@ -29,3 +34,12 @@ tour_plan last zero g es = last (traced g es)
 tour_plan last (suc n) g es = while_running g.state.stop
     (Turns (next_turn g) (λ left. unless_full (tour_plan last n (next_guest g left)) (with_step (next_guest g left).edge es)))
     (last (traced g es))
+
+-- ---- what the functions owe
+
+abbrev pub stop_of_tracing : TracingError → work.Stop
+stop_of_tracing errors.Input = Outside objects.Input
+stop_of_tracing errors.Out = Outside objects.Output
+stop_of_tracing errors.Report = Outside objects.Report
+stop_of_tracing errors.Union = Because (Limited limits.Union)
+stop_of_tracing errors.Memory = Memory

@@ -5,4 +5,5 @@ pub mod lines;
 pub mod merge;
 pub mod original;
 pub mod run;
+pub mod trace;
 pub mod traces;

@@ -1,4 +1,6 @@
 //! Whole commands over objects in memory.
+mod traces;
+
 use crate::top::binrec;
 use br_outside::{CalmShelf, CalmSink, CalmSource, MemShelf, MemSink, MemSource};
 use std::test::Fail;
@@ -53,11 +55,28 @@ fn left_by(
     left_with(rt, words, content, failing, &[], silent)
 }
 
-/// The same, where the listed calls of the output fail too.
+/// Runs a command over a shelf with these files.
+fn left_of(rt: &HostRuntime, words: &[&str], files: &[(&str, &[u8])]) -> Result<Left, Fail> {
+    left_over(rt, words, files, &[], &[], &[])
+}
+
+/// The same as `left_by`, where the listed calls of the output fail too.
 fn left_with(
     rt: &HostRuntime,
     words: &[&str],
     content: &[u8],
+    failing: &[u32],
+    mute: &[u32],
+    silent: &[u32],
+) -> Result<Left, Fail> {
+    left_over(rt, words, &[("E", content)], failing, mute, silent)
+}
+
+/// Runs a command over these files, where the listed calls of the shelf, the output and the report fail.
+fn left_over(
+    rt: &HostRuntime,
+    words: &[&str],
+    contents: &[(&str, &[u8])],
     failing: &[u32],
     mute: &[u32],
     silent: &[u32],
@@ -68,7 +87,9 @@ fn left_with(
         texts.push(String::from_str(alloc, word)?)?;
     }
     let mut files = Vec::new(alloc);
-    files.push((String::from_str(alloc, "E")?, content.to_vec(alloc)?))?;
+    for (name, content) in contents {
+        files.push((String::from_str(alloc, name)?, content.to_vec(alloc)?))?;
+    }
     let mut shelf = MemShelf::new(alloc, files, failing.to_vec(alloc)?);
     let mut input = MemSource::new(b"input".to_vec(alloc)?, Vec::new(alloc));
     let mut out = MemSink::new(alloc, mute.to_vec(alloc)?);
@@ -211,7 +232,7 @@ fn limits_the_original(rt: HostRuntime) -> Result<(), Fail> {
 
 #[test]
 fn reads_the_words(rt: HostRuntime) -> Result<(), Fail> {
-    let stated: [(&[&str], &str); 14] = [
+    let stated: [(&[&str], &str); 15] = [
         (&[], "usage 0\n"),
         (&["built", "N", "E"], "usage 0\n"),
         (&["build"], "usage 1\n"),
@@ -222,6 +243,7 @@ fn reads_the_words(rt: HostRuntime) -> Result<(), Fail> {
         (&["build", "N", "E", "T"], "usage 3\n"),
         (&["build", "N", "E", "T", ""], "usage 3\n"),
         (&["show", "E"], "usage 0\n"),
+        (&["session", "E", "F"], "usage 0\n"),
         (&["demo", "0"], "usage 0\n"),
         (&["run"], "usage 1\n"),
         (&["run", "--steps", "x", "E"], "usage 2\n"),

@@ -1,19 +1,21 @@
 //! The top call.
-ghost use Rattle.std.specs.Prelude.{◌≡◌, ℕ, List, [], Ok, map, string_bytes};
+ghost use Rattle.std.specs.Prelude.{◌≡◌, ℕ, ◌+◌, List, [], Ok, map, string_bytes};
 ghost use Rattle.binrec.specs.Plans.World.{world};
 ghost use Rattle.binrec.specs.Plans.Plan.{Went};
 ghost use Rattle.binrec.specs.Plans.Happened.{Happened};
 ghost use Rattle.binrec.specs.Plans.Told.{IsExact, IsComplete, HasCause};
-ghost use Rattle.word_reader.specs.Words.{Builds, Runs, Merges};
+ghost use Rattle.word_reader.specs.Words.{Builds, Traces, Runs, Merges};
 ghost use Rattle.binrec.specs.Words.{asked_by, first_name};
 ghost use Rattle.binrec.specs.Commands.{plan, end_of};
 ghost use Rattle.binrec.specs.Meaning.{MeansBuild, MeansRun, MeansMerge, MeansUsage};
+ghost use Rattle.binrec.specs.TraceMeaning.{MeansTrace};
 
 use crate::acts::report::{tell, tell_stop};
 use crate::acts::stop::{Cause, Outcome, Stop};
 use crate::commands::build::build_command;
 use crate::commands::merge::merge_command;
 use crate::commands::run::run_command;
+use crate::commands::trace::trace_command;
 use crate::words::{first_name, read_command};
 use br_outside::{Shelf, Sink, Source};
 use build_core::image_law;
@@ -35,12 +37,26 @@ fn work<F: Shelf, I: Source, O: Sink, R: Sink>(
 ) -> Result<Outcome, Stop>
     ensures { Went (plan (map string_bytes words.now)) (world (F.seen shelf.old) (I.seen input.old) (O.seen out.old) (R.seen report.old)) (end_of result) (world (F.seen shelf.new) (I.seen input.new) (O.seen out.new) (R.seen report.new)) }
 {
-    let word = first_name(words);
+    let first = first_name(words);
     match read_command(words) {
         Ok(Command::Build { n, e, .. }) => build_command(alloc, shelf, n, e),
         Ok(Command::Merge { t, e, traces }) => merge_command(alloc, shelf, t, e, traces),
         Ok(Command::Run { steps, e, args }) => {
-            run_command(alloc, shelf, input, out, report, steps, e, args, word)
+            run_command(alloc, shelf, input, out, report, steps, e, args, first)
+        }
+        Ok(Command::Trace { steps, t, e, args }) => {
+            trace_command(
+                alloc,
+                shelf,
+                input,
+                out,
+                report,
+                steps,
+                t,
+                e,
+                args,
+                first + 1,
+            )
         }
         Ok(_) => Err(Stop::Because(Cause::Usage(0))),
         Err(at) => Err(Stop::Because(Cause::Usage(at))),
@@ -49,29 +65,42 @@ fn work<F: Shelf, I: Source, O: Sink, R: Sink>(
 
 /// Does what the words after the program's name ask for, and answers its status.
 ///
-/// `build N E` fetches E, of at most 16777216 bytes, and stores as N a file that does what E does.
-/// It takes nothing of the input and prints nothing on `out`. A name is a text of 1 to 4096 bytes.
+/// | Words | What is done | Line with status 0 |
+/// |---|---|---|
+/// | `build N E` | stores as N a file that does what E does | `built 0 5 L`, L the length of N in bytes |
+/// | `trace [--steps K] T E WORD..` | runs E for at most K steps, and stores the edges of the steps as T | `exit S steps M undefined U edges P` |
+/// | `run [--steps K] E WORD..` | runs E for at most K steps | `exit S steps M undefined U` |
+/// | `merge T E T..` | stores the union of the later traces of E as the first T | `merged P` |
+///
+/// A name is a text of 1 to 4096 bytes; at most 4096 traces are fetched. K is 1 to 18 decimal digits, and
+/// 100000000 where it is not given. A guest takes its input of `input`, prints on `out` and reports on
+/// `report`; `build` and `merge` take and print nothing. S is the guest's status, M the number of its
+/// steps, U how many of them read a flag that was not defined, and P a number of edges.
 ///
 /// The last call gives the report line:
 ///
 /// | Status | When | Line |
 /// |---|---|---|
-/// | 0 | all was done | `built 0 5 L`, L the length of N in bytes |
+/// | 0 | all was done; the guest exited | as above |
 /// | 1 | the words are no command | `usage W`, W the position of the first wrong word, from 0, or the number of words where one is missing |
-/// | 2 | E is refused as an original | `refused word 2 K P`, with the refusal's number and its place in E |
-/// | 3 | a call of the shelf failed, or the report line could not be given | `outside shelf` |
+/// | 2 | a file is refused, the first in the order of the words | `refused word W K P`, with the position of its word, the refusal's number and its place in the file |
+/// | 3 | a call of an object failed, or a name is absent, or the report line could not be given | `outside shelf`, `outside input`, `outside output` or `outside report` |
 /// | 4 | want of memory | `memory` |
-/// | 7 | E is too long | `limit file 16777216` |
+/// | 5 | the guest faulted | `fault KIND ADDRESS` and the counts of status 0 |
+/// | 6 | after K steps the guest still ran | `budget` and the counts of status 0 |
+/// | 7 | a limit is passed | `limit file 16777216` (268435456 for `run`), `limit edges 16777216` for all traces of `merge`, `limit union 2000000` for what is stored as a trace |
 ///
-/// The first cause in the order of the work decides, but a report line that cannot be given makes
-/// the status 3, or 4 where the sink wants memory, in place of any other. After 1, 2 and 7 nothing is
-/// stored. After 4 the file may be stored, and after 3 where the report failed; where the store
-/// itself failed, what N holds is not known. No other name changes.
+/// The first cause in the order of the work decides: E comes before the traces, each file is fetched,
+/// measured, read and counted before the next, and a fault of an object stands at the call that met it. But
+/// a report line that cannot be given makes the status 3, or 4 where the sink wants memory, in place of any
+/// other. `trace` stores its file before the report line of 0, 5 and 6. After 1, 2 and 7 nothing is stored.
+/// After 4 the file may be stored, and after 3 where the report failed; where the store itself failed, what
+/// its name holds is not known. No other name changes.
 ///
 /// The clauses: `happened`, the calls made are those of the command's plan and no others; `exact`
 /// and `complete`, over objects that tell what they hold the answer is the expected one, unless memory
-/// is wanting or an object fails; `cause`, status 3 names an object whose count rose; `usage` and
-/// `build`, what the statuses mean.
+/// is wanting or an object fails; `cause`, status 3 names an object whose count rose; `usage`, `build`, `run`,
+/// `trace` and `merge`, what the statuses mean.
 pub fn binrec<F: Shelf, I: Source, O: Sink, R: Sink>(
     alloc: Global,
     words: &[String],
@@ -99,6 +128,9 @@ pub fn binrec<F: Shelf, I: Source, O: Sink, R: Sink>(
         (world (F.seen shelf.old) (I.seen input.old) (O.seen out.old) (R.seen report.old)) result.0
         (world (F.seen shelf.new) (I.seen input.new) (O.seen out.new) (R.seen report.new)) }
     ensures run { (steps : ℕ) (name : List ℕ) (args : List (List ℕ)) → asked_by (map string_bytes words.now) ≡ Ok (Runs steps name args) → MeansRun steps name args (first_name (map string_bytes words.now))
+        (world (F.seen shelf.old) (I.seen input.old) (O.seen out.old) (R.seen report.old)) result.0
+        (world (F.seen shelf.new) (I.seen input.new) (O.seen out.new) (R.seen report.new)) }
+    ensures trace { (steps : ℕ) (target original : List ℕ) (args : List (List ℕ)) → asked_by (map string_bytes words.now) ≡ Ok (Traces steps target original args) → MeansTrace steps target original args (first_name (map string_bytes words.now) + 1)
         (world (F.seen shelf.old) (I.seen input.old) (O.seen out.old) (R.seen report.old)) result.0
         (world (F.seen shelf.new) (I.seen input.new) (O.seen out.new) (R.seen report.new)) }
     ensures merge { (target original : List ℕ) (names : List (List ℕ)) → asked_by (map string_bytes words.now) ≡ Ok (Merges target original names) → MeansMerge target original names

@@ -1,5 +1,8 @@
 pub mod Sorted
 pub mod Union
+pub mod Unique
+pub mod Halves
+pub mod Sets
 pub mod Search
 pub mod Records
 pub mod Result

@@ -13,14 +13,15 @@ and_both a b e f = ap (λ a. a && b) e ∙ f
 abbrev pub edge : ℕ → ℕ → Edge
 edge site target = (site, target)
 
+pub same_edge : (a b : Edge) → (b.0 ≡ a.0) × (b.1 ≡ a.1) → b ≡ a
+same_edge a b p = ap (λ s. edge s b.1) p.0 ∙ ap (λ t. edge a.0 t) p.1
+
 tied_parts : (a b c d : ℕ) → before (edge a b) (edge c d) ≡ false → before (edge c d) (edge a b) ≡ false → (a ≡ c) × (b ≡ d)
 tied_parts a b c d h k = (grind (arith, nat_tests), grind (arith, nat_tests))
 
 -- of two edges one is before the other, or they are one
 pub tied : (a b : Edge) → before a b ≡ false → before b a ≡ false → a ≡ b
-tied a b h k =
-    let p = tied_parts a.0 a.1 b.0 b.1 h k in
-    ap (λ s. edge s a.1) p.0 ∙ ap (λ t. edge b.0 t) p.1
+tied a b h k = same_edge b a (tied_parts a.0 a.1 b.0 b.1 h k)
 
 pub not_before_itself : (a : Edge) → before a a ≡ false
 not_before_itself a = grind (arith, nat_tests)
@@ -42,7 +43,7 @@ after_at a (b ∷ es) (suc i) d h l =
     let p = and_inv (before a b) (ascends_after b es) h in
     before_after a b (get_or es i d) p.0 (after_at b es i d p.1 (omega arith))
 
-ascends_later : (a : Edge) (es : List Edge) → ascends_after a es ≡ true → ascends es ≡ true
+pub ascends_later : (a : Edge) (es : List Edge) → ascends_after a es ≡ true → ascends es ≡ true
 ascends_later a [] h = refl
 ascends_later a (b ∷ es) h = (and_inv (before a b) (ascends_after b es) h).1
 

@@ -6,16 +6,16 @@ use Rattle.trace_file.proofs.Sorted.{and_inv, and_both, tied}
 
 -- ---- which edges
 
-abbrev Either : List Edge → List Edge → Edge → Type 0
+abbrev pub Either : List Edge → List Edge → Edge → Type 0
 Either xs ys e = Contains xs e ⊎ Contains ys e
 
-here : (e : Edge) (xs : List Edge) → Contains (e ∷ xs) e
+pub here : {X : Type 0} (e : X) (xs : List X) → Contains (e ∷ xs) e
 here e xs = (0, omega arith, refl)
 
-there : (a e : Edge) (xs : List Edge) → Contains xs e → Contains (a ∷ xs) e
+pub there : {X : Type 0} (a e : X) (xs : List X) → Contains xs e → Contains (a ∷ xs) e
 there a e xs (k, l, h) = (suc k, omega arith, h)
 
-first_or_later : (a e : Edge) (xs : List Edge) → Contains (a ∷ xs) e → (a ≡ e) ⊎ Contains xs e
+pub first_or_later : {X : Type 0} (a e : X) (xs : List X) → Contains (a ∷ xs) e → (a ≡ e) ⊎ Contains xs e
 first_or_later a e xs (zero, l, h) = inl h
 first_or_later a e xs (suc k, l, h) = inr (k, omega arith, h)
 
@@ -101,7 +101,7 @@ merge_after (a ∷ es) c bs h g =
     let p = and_inv (before c a) (ascends_after a es) h in
     step_after a es (merge es) (merge_after es) c bs p.0 p.1 g
 
-ascends_merge : (es bs : List Edge) → ascends es ≡ true → ascends bs ≡ true → ascends (merge es bs) ≡ true
+pub ascends_merge : (es bs : List Edge) → ascends es ≡ true → ascends bs ≡ true → ascends (merge es bs) ≡ true
 ascends_merge [] bs h g = g
 ascends_merge (a ∷ es) [] h g = merge_after es a [] h refl
 ascends_merge (a ∷ es) (b ∷ bs) h g = go (before a b) refl (before b a) refl
@@ -120,7 +120,7 @@ step_length a es rest h (b ∷ bs) = go (step_length a es rest h bs) (before a b
     go later false true = omega arith
     go later false false = let l = h bs in omega arith
 
-merge_length : (es bs : List Edge) → length (merge es bs) ≤ length es + length bs
+pub merge_length : (es bs : List Edge) → length (merge es bs) ≤ length es + length bs
 merge_length [] bs = omega arith
 merge_length (a ∷ es) bs = step_length a es (merge es) (merge_length es) bs
 

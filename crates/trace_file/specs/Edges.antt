@@ -1,5 +1,5 @@
 -- Control-flow edges, and lists of them in order.
-use Rattle.std.specs.Prelude.{◌≡◌, ℕ, ◌≤◌, Bool, true, ◌||◌, ◌&&◌, nat_eq, nat_lt, if◌then◌else◌, List, [], ◌∷◌, length}
+use Rattle.std.specs.Prelude.{◌≡◌, ℕ, ◌≤◌, ◌↔◌, Bool, true, ◌||◌, ◌&&◌, nat_eq, nat_lt, if◌then◌else◌, List, [], ◌∷◌, length, sum_by, All, Contains}
 
 -- the address of a transfer, the site, and the address that it led to, the target
 abbrev pub Edge : Type 0
@@ -50,3 +50,28 @@ in_order es = collected es []
 abbrev pub union_of : List (List Edge) → List Edge
 union_of [] = []
 union_of (es ∷ sets) = merge es (union_of sets)
+
+-- how many pairs the sets have together, one that several have counted in each
+abbrev pub pairs : List (List Edge) → ℕ
+pairs sets = sum_by length sets
+
+-- ---- what these lists are
+
+abbrev pub IsInOrder : List Edge → Type 0
+IsInOrder es = ascends es ≡ true
+
+-- a list has exactly the edges of which this holds, in order
+pub record IsSetOf (Holds : Edge → Type 0) (made : List Edge) : Type 0 where
+  pub order : IsInOrder made
+  pub members : (e : Edge) → Contains made e ↔ Holds e
+
+-- an edge is in one of the sets
+abbrev pub IsInSome : List (List Edge) → Edge → Type 0
+IsInSome sets e = (es : List Edge) × Contains sets es × Contains es e
+
+-- edges put in one after another, and the union of sets, are sets of just these edges; and two sets of
+-- the same edges are one list
+pub record SetsHold : Type 0 where
+  pub gathered : (es : List Edge) → IsSetOf (Contains es) (in_order es)
+  pub united : (sets : List (List Edge)) → All IsInOrder sets → IsSetOf (IsInSome sets) (union_of sets)
+  pub unique : (es made : List Edge) → IsInOrder es → IsSetOf (Contains es) made → made ≡ es

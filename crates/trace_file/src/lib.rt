@@ -9,13 +9,15 @@ mod hash;
 mod law;
 mod order;
 mod read;
+mod unite;
 mod write;
 
 pub use edges::Edges;
 pub use error::TraceError;
 pub use hash::digest;
-pub use law::read_back;
+pub use law::{read_back, sets_hold};
 pub use read::read_trace;
+pub use unite::union_all;
 pub use write::write_trace;
 
 #[cfg(test)]

@@ -1,5 +1,5 @@
 //! Examples from outside: a file of the format, its damaged forms, and a digest that sha256sum printed.
-use crate::{Edges, TraceError, digest, read_trace, write_trace};
+use crate::{Edges, TraceError, digest, read_trace, union_all, write_trace};
 use std::alloc::{AllocError, Global};
 use std::test::Fail;
 
@@ -88,5 +88,26 @@ fn joins(rt: HostRuntime) -> Result<(), Fail> {
     );
     let none = Edges::new(alloc);
     assert_eq!(rt; none.union(alloc, &left)?.len(), 3);
+    Ok(())
+}
+
+#[test]
+fn joins_many(rt: HostRuntime) -> Result<(), Fail> {
+    let alloc = rt.alloc();
+    let sets = [
+        Edges::of_list(vec![in alloc; (5, 1), (9, 2)]?),
+        Edges::new(alloc),
+        Edges::of_list(vec![in alloc; (5, 0), (5, 1)]?),
+        Edges::of_list(vec![in alloc; (0, 7)]?),
+        Edges::of_list(vec![in alloc; (0, 7), (10, 0)]?),
+    ];
+    let sets = sets.as_slice();
+    let all = union_all(alloc, sets)?;
+    assert_eq!(rt;
+        all.as_slice(),
+        [(0, 7), (5, 0), (5, 1), (9, 2), (10, 0)].as_slice()
+    );
+    assert_eq!(rt; union_all(alloc, &sets[1..2])?.len(), 0);
+    assert_eq!(rt; union_all(alloc, &[])?.len(), 0);
     Ok(())
 }

@@ -1,5 +1,5 @@
 -- What a traced run gives, for an input that tells what it has left.
-use Rattle.std.specs.Prelude.{◌≡◌, ◌<◌, ◌≤◌, ℕ, List, ◌∷◌, length, Result, Ok, Err}
+use Rattle.std.specs.Prelude.{◌≡◌, ◌<◌, ◌≤◌, ℕ, List, [], ◌∷◌, length, Result, Ok, Err}
 use Rattle.br_word.specs.State.{State, Running}
 use Rattle.ia_inst.specs.Step.{step}
 use Rattle.elf_read.specs.declared.exe.Exe.{Exe}
@@ -7,7 +7,6 @@ use Rattle.guest_sys.specs.Streams.{Streams}
 use Rattle.guest_sys.specs.Calls.{Passes}
 use Rattle.guest_sys.specs.declared.answers.SysError.{SysError}
 use Rattle.guest_sys.specs.declared.answers.SysError.TheVariants as sys
-use Rattle.guest_run.specs.Opening.{opening, arguments}
 use Rattle.guest_run.specs.Run.{run}
 use Rattle.guest_run.specs.Edges.{edges_from}
 use Rattle.guest_run.specs.Guest.{ahead, answer_of, steps_taken, undefined_taken, RunFailsAt}

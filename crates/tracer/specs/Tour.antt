@@ -1,5 +1,5 @@
 -- A traced run, step by step: a guest takes steps, and the edge of each is recorded.
-use Rattle.std.specs.Prelude.{◌≡◌, ◌⊎◌, ◌<◌, ◌≤◌, ℕ, zero, suc, List, [], ◌∷◌, length, Option, Some, None, Result, Ok, Err}
+use Rattle.std.specs.Prelude.{◌≡◌, ◌⊎◌, ◌<◌, ◌≤◌, ℕ, zero, suc, true, List, length, Option, Some, None, Result, Ok, Err}
 use Rattle.br_word.specs.State.{Running}
 use Rattle.elf_read.specs.declared.exe.Exe.{Exe}
 use Rattle.guest_sys.specs.Streams.{Streams}
@@ -54,3 +54,8 @@ pub data AfterStep (next : GuestView → List Edge → Streams → Type 0) (g : 
 unfoldable pub Tour : ℕ → GuestView → List Edge → Result Traced TracingError → Streams → Streams → Type 0
 Tour zero g es r before after = Wants r before after ⊎ Stands g es r before after
 Tour (suc n) g es r before after = AfterStep (λ h hs now. Tour n h hs r now after) g es r before after
+
+-- What a guest's answer is where no more steps are taken: after steps that were all done, or after an error.
+abbrev pub Rests : Result (Unit {0}) TracingError → GuestView → List Edge → Result Traced TracingError → Streams → Streams → Type 0
+Rests (Ok _) g es r before after = Wants r before after ⊎ Stands g es r before after
+Rests (Err e) g es r before after = (r ≡ Err e) × (after ≡ before)

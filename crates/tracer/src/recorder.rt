@@ -36,10 +36,8 @@ impl Recorder {
         ensures { IfOk result (λ r. r ≡ first ∷ []) }
     {
         let mut edges = BTreeSet::new(alloc);
-        match edges.insert(first) {
-            Ok(_) => Ok(Recorder { edges }),
-            Err(failed) => Err(failed.error),
-        }
+        edges.insert(first)?;
+        Ok(Recorder { edges })
     }
 
     /// Records an edge. Errors: `Union` where there would be more than 2000000, and `Memory`; the edges are
@@ -58,7 +56,8 @@ impl Recorder {
 
     /// The edges in order.
     pub fn edges(&self, alloc: Global) -> Result<Edges, AllocError>
-        ensures { IfOk result (λ edges. edges ≡ self.now) }
+        ensures value { IfOk result (λ edges. edges ≡ self.now) }
+        ensures few { IfOk result (λ edges. length edges ≤ edge_limit) }
     {
         let mut list = Vec::with_capacity(alloc, self.edges.len())?;
         for edge in &self.edges {

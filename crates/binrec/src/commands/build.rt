@@ -1,5 +1,5 @@
 //! `build N E`: the image of an original, stored under a name.
-ghost use Rattle.std.specs.Prelude.{◌≡◌, Ok, length, string_bytes};
+ghost use Rattle.std.specs.Prelude.{Ok, length, string_bytes};
 ghost use Rattle.elf_read.specs.Elf.{IsOriginal};
 ghost use Rattle.build_core.specs.Image.{image};
 ghost use Rattle.binrec.specs.Plans.World.{World, on_shelf};

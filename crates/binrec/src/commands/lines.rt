@@ -3,6 +3,7 @@ ghost use Rattle.std.specs.Prelude.{◌≡◌, IfOk, string_bytes};
 ghost use Rattle.br_word.specs.State.{Faulted};
 ghost use Rattle.guest_run.specs.Guest.{stop_of};
 ghost use Rattle.binrec.specs.Guests.{address_text, fault_kind, fault_address, stand_text, last_line, finish_of};
+ghost use Rattle.binrec.specs.Tours.{traced_line};
 
 use crate::acts::stop::Finish;
 use br_word::GuestFault;
@@ -71,6 +72,20 @@ pub fn last_line(
 {
     let text = stand_text(alloc, stand)?;
     format!(in alloc; "{text} steps {steps} undefined {undefined}\n")
+}
+
+/// The last line of a traced run: the same, and how many edges were recorded.
+pub fn traced_line(
+    alloc: Global,
+    stand: Stand,
+    steps: u64,
+    undefined: u64,
+    edges: u32,
+) -> Result<String, AllocError>
+    ensures { IfOk result (λ line. string_bytes line ≡ traced_line (stop_of stand) steps undefined edges) }
+{
+    let text = stand_text(alloc, stand)?;
+    format!(in alloc; "{text} steps {steps} undefined {undefined} edges {edges}\n")
 }
 
 /// How the work of a guest that stands so is done.

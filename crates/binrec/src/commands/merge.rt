@@ -1,35 +1,23 @@
 //! `merge T E T..`: the union of traces, stored under a name.
-ghost use Rattle.std.specs.Prelude.{◌≡◌, ◌≤◌, ◌<◌, ◌+◌, ◌^◌, Ok, IfOk, length, sum, map, string_bytes, List};
-ghost use Rattle.trace_file.specs.Edges.{Edge, union_of};
-ghost use Rattle.trace_file.specs.Trace.{trace_bytes};
+ghost use Rattle.std.specs.Prelude.{◌≤◌, Ok, IfOk, length, map, string_bytes};
+ghost use Rattle.trace_file.specs.Edges.{pairs, union_of};
 ghost use Rattle.binrec.specs.Plans.World.{World, on_shelf};
 ghost use Rattle.binrec.specs.Plans.Plan.{Went};
-ghost use Rattle.binrec.specs.Plans.Parts.{Goes, Checks};
+ghost use Rattle.binrec.specs.Plans.Parts.{Checks};
 ghost use Rattle.binrec.specs.Traces.{limited};
 ghost use Rattle.binrec.specs.Commands.{merge_plan, merged_line, store_part, end_of};
 
 use crate::acts::files::store_file;
 use crate::acts::stop::{Cause, Finish, Limit, Outcome, Stop};
 use crate::commands::original::fetch_subject;
-use crate::commands::traces::fetch_traces;
+use crate::commands::traces::{UNION_LIMIT, fetch_traces, file_of};
 use br_outside::Shelf;
-use std::alloc::{AllocError, Global};
-use trace_file::{Edges, write_trace};
-
-/// The most edges that are stored as one trace.
-const UNION_LIMIT: u32 = 2000000;
-
-// PLACEHOLDER until `trace_file::union_all` is there.
-fn union_all(_alloc: Global, _sets: &[Edges]) -> Result<Edges, AllocError>
-    requires { sum (map length _sets.now) ≤ 16777216 }
-    ensures value { IfOk result (λ all. all ≡ union_of _sets.now) }
-{
-    Err(AllocError)
-}
+use std::alloc::Global;
+use trace_file::{Edges, union_all};
 
 /// The union of traces. The error is the limit on it, or want of memory.
 fn union_of(alloc: Global, traces: Vec<Edges>) -> Result<Edges, Stop>
-    requires { sum (map length traces.items) ≤ 16777216 }
+    requires { pairs traces.items ≤ 16777216 }
     ensures checks { Checks (λ es. es) result (limited (union_of traces.items)) }
     ensures count { IfOk result (λ es. length es ≤ UNION_LIMIT) }
 {
@@ -40,17 +28,6 @@ fn union_of(alloc: Global, traces: Vec<Edges>) -> Result<Edges, Stop>
         return Err(Stop::Because(Cause::Limited(Limit::Union)));
     }
     Ok(edges)
-}
-
-/// The file of a trace. The error is want of memory.
-fn file_of(alloc: Global, edges: &Edges, digest: &[u8; 32]) -> Result<Vec<u8>, Stop>
-    requires { length edges.now ≤ UNION_LIMIT }
-    ensures { Checks (λ v. v.items) result (Ok (trace_bytes edges.now digest.now)) }
-{
-    match write_trace(alloc, edges, digest) {
-        Ok(file) => Ok(file),
-        Err(_) => Err(Stop::Memory),
-    }
 }
 
 /// The report line of a union. The error is want of memory.

@@ -1,6 +1,5 @@
 //! Originals: the executables that are rebuilt and traced.
-ghost use Rattle.std.specs.Prelude.{◌≡◌, ◌≤◌, IfOk, length};
-ghost use Rattle.sha2.specs.Sha256.{sha256};
+ghost use Rattle.std.specs.Prelude.{◌≤◌, IfOk, length};
 ghost use Rattle.elf_read.specs.Elf.{elf, IsOriginal};
 ghost use Rattle.elf_read.specs.declared.exe.Reach.TheVariants.{Original};
 ghost use Rattle.binrec.specs.Plans.World.{World, on_shelf};

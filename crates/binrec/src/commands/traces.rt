@@ -1,7 +1,7 @@
-//! Traces that are fetched.
-ghost use Rattle.std.specs.Prelude.{◌≡◌, ◌≤◌, ◌<◌, ◌+◌, ◌^◌, IfOk, length, sum, map, string_bytes};
-ghost use Rattle.trace_file.specs.Edges.{Edge};
-ghost use Rattle.trace_file.specs.Trace.{trace};
+//! Traces that are fetched and stored.
+ghost use Rattle.std.specs.Prelude.{◌≤◌, ◌<◌, ◌+◌, ◌^◌, IfOk, length, map, string_bytes};
+ghost use Rattle.trace_file.specs.Edges.{pairs};
+ghost use Rattle.trace_file.specs.Trace.{trace, trace_bytes};
 ghost use Rattle.binrec.specs.Plans.World.{World, on_shelf};
 ghost use Rattle.binrec.specs.Plans.Parts.{Goes, Checks};
 ghost use Rattle.binrec.specs.Traces.{edges_of_word, counted, trace_part, traces_part};
@@ -10,13 +10,16 @@ use crate::acts::files::fetch_file;
 use crate::acts::stop::{Cause, Limit, Stop};
 use br_outside::Shelf;
 use std::alloc::Global;
-use trace_file::{Edges, TraceError, read_trace};
+use trace_file::{Edges, TraceError, read_trace, write_trace};
 
 /// The most bytes of a trace.
 const FILE_LIMIT: u32 = 16777216;
 
 /// The most edges of all traces that are given.
 const EDGE_LIMIT: u32 = 16777216;
+
+/// The most edges that are stored as one trace.
+pub const UNION_LIMIT: u32 = 2000000;
 
 /// The number of the refusal of a trace of another executable, and its place.
 const OTHER_NUMBER: u32 = 22;
@@ -98,7 +101,7 @@ pub fn fetch_traces<F: Shelf>(
 ) -> Result<Vec<Edges>, Stop>
     requires few { word + length names.now < 2 ^ 32 }
     ensures goes { (w : World) → Goes (λ v. v.items) (traces_part digest.now (map string_bytes names.now) word 0) (on_shelf w (F.seen shelf.old)) result (on_shelf w (F.seen shelf.new)) }
-    ensures count { IfOk result (λ v. sum (map length v.items) ≤ EDGE_LIMIT) }
+    ensures count { IfOk result (λ v. pairs v.items ≤ EDGE_LIMIT) }
 {
     let mut traces = Vec::new(alloc);
     let mut count = 0;
@@ -112,4 +115,15 @@ pub fn fetch_traces<F: Shelf>(
         at += 1;
     }
     Ok(traces)
+}
+
+/// The file of a trace. The error is want of memory.
+pub fn file_of(alloc: Global, edges: &Edges, digest: &[u8; 32]) -> Result<Vec<u8>, Stop>
+    requires { length edges.now ≤ UNION_LIMIT }
+    ensures { Checks (λ v. v.items) result (Ok (trace_bytes edges.now digest.now)) }
+{
+    match write_trace(alloc, edges, digest) {
+        Ok(file) => Ok(file),
+        Err(_) => Err(Stop::Memory),
+    }
 }

@@ -1,9 +1,11 @@
-use Rattle.std.proofs.Common.{map, string_bytes, Ok, ap, ◌∙◌}
+use Rattle.std.proofs.Common.{map, string_bytes, Ok, ap, ◌∙◌, arith}
+use Rattle.std.proofs.lemmas.List.{length-map}
 use Rattle.word_reader.specs.Reads.{asked_of}
-use Rattle.word_reader.specs.Words.{Builds}
+use Rattle.word_reader.specs.Words.{Builds, Merges}
 use Rattle.binrec.specs.Plans.World.{world}
+use Rattle.binrec.specs.Commands.{end_of}
 use Rattle.binrec.proofs.Tops.{no_command, asked_for, run_for}
-use Rattle.binrec.proofs.Fitting.{asked_fits}
+use Rattle.binrec.proofs.Fitting.{asked_fits, merge_fits}
 use Rattle.binrec.proofs.top.work.Goals as goal
 
 pub run_command-requires-clause-fit : goal.run_command-requires-clause-fit
@@ -12,14 +14,28 @@ run_command-requires-clause-fit g c = (asked_fits (map string_bytes c.args.words
 pub run_command-requires-clause-few : goal.run_command-requires-clause-few
 run_command-requires-clause-few g c = (asked_fits (map string_bytes c.args.words.now) c.in-Ok-Run.steps c.in-Ok-Run.e.now (map string_bytes c.in-Ok-Run.args.now) (c.in-Ok-Run.ensures ∙ ap (λ x. Ok (asked_of x)) c.in-Ok-Run.field-0-is)).few
 
+pub merge_command-requires : goal.merge_command-requires
+merge_command-requires g c =
+    let few = merge_fits (map string_bytes c.args.words.now) c.in-Ok-Merge.t.now c.in-Ok-Merge.e.now (map string_bytes c.in-Ok-Merge.traces.now) (c.in-Ok-Merge.ensures ∙ ap (λ x. Ok (asked_of x)) c.in-Ok-Merge.field-0-is) in
+    omega (arith, few, length-map c.in-Ok-Merge.traces.now string_bytes)
+
 pub returns-in-Ok-Build : goal.returns-in-Ok-Build
 returns-in-Ok-Build g c =
     let s = world (g.F.Shelf.seen c.args.shelf.now) (g.I.Source.seen c.args.input.now) (g.O.Sink.seen c.args.out.now) (g.R.Sink.seen c.args.report.now) in
-    asked_for (map string_bytes c.args.words.now) (Builds c.in-Ok-Build.n.now c.in-Ok-Build.e.now _) _ _ _ (c.in-Ok-Build.ensures ∙ ap (λ x. Ok (asked_of x)) c.in-Ok-Build.field-0-is) (c.build_command.ensures s)
+    let t = world (g.F.Shelf.seen c.build_command.new.shelf) (g.I.Source.seen c.args.input.now) (g.O.Sink.seen c.args.out.now) (g.R.Sink.seen c.args.report.now) in
+    asked_for (map string_bytes c.args.words.now) (Builds c.in-Ok-Build.n.now c.in-Ok-Build.e.now _) s (end_of c.build_command.result) t (c.in-Ok-Build.ensures ∙ ap (λ x. Ok (asked_of x)) c.in-Ok-Build.field-0-is) (c.build_command.ensures s)
+
+pub returns-in-Ok-Merge : goal.returns-in-Ok-Merge
+returns-in-Ok-Merge g c =
+    let s = world (g.F.Shelf.seen c.args.shelf.now) (g.I.Source.seen c.args.input.now) (g.O.Sink.seen c.args.out.now) (g.R.Sink.seen c.args.report.now) in
+    let t = world (g.F.Shelf.seen c.merge_command.new.shelf) (g.I.Source.seen c.args.input.now) (g.O.Sink.seen c.args.out.now) (g.R.Sink.seen c.args.report.now) in
+    asked_for (map string_bytes c.args.words.now) (Merges c.in-Ok-Merge.t.now c.in-Ok-Merge.e.now (map string_bytes c.in-Ok-Merge.traces.now)) s (end_of c.merge_command.result) t (c.in-Ok-Merge.ensures ∙ ap (λ x. Ok (asked_of x)) c.in-Ok-Merge.field-0-is) (c.merge_command.ensures s)
 
 pub returns-in-Ok-Run : goal.returns-in-Ok-Run
 returns-in-Ok-Run g c =
-    run_for (map string_bytes c.args.words.now) c.in-Ok-Run.steps c.in-Ok-Run.e.now (map string_bytes c.in-Ok-Run.args.now) c.first_name-word.result _ _ _ (c.in-Ok-Run.ensures ∙ ap (λ x. Ok (asked_of x)) c.in-Ok-Run.field-0-is) c.first_name-word.ensures c.run_command.ensures
+    let s = world (g.F.Shelf.seen c.args.shelf.now) (g.I.Source.seen c.args.input.now) (g.O.Sink.seen c.args.out.now) (g.R.Sink.seen c.args.report.now) in
+    let t = world (g.F.Shelf.seen c.run_command.new.shelf) (g.I.Source.seen c.run_command.new.input) (g.O.Sink.seen c.run_command.new.out) (g.R.Sink.seen c.run_command.new.report) in
+    run_for (map string_bytes c.args.words.now) c.in-Ok-Run.steps c.in-Ok-Run.e.now (map string_bytes c.in-Ok-Run.args.now) c.first_name-first.result s (end_of c.run_command.result) t (c.in-Ok-Run.ensures ∙ ap (λ x. Ok (asked_of x)) c.in-Ok-Run.field-0-is) c.first_name-first.ensures c.run_command.ensures
 
 pub returns-in-Err : goal.returns-in-Err
 returns-in-Err g c = no_command (map string_bytes c.args.words.now) c.in-Err.at _ c.in-Err.ensures

@@ -2,6 +2,7 @@ use Rattle.std.proofs.Common.{map, string_bytes}
 use Rattle.guest_run.specs.Guest.{beginning}
 use Rattle.binrec.specs.Plans.World.{world}
 use Rattle.binrec.specs.Guests.{guest_plan}
+use Rattle.binrec.specs.Commands.{end_of}
 use Rattle.binrec.proofs.Ends.{ends_on}
 use Rattle.binrec.proofs.commands.run.run_command.Goals as goal
 
@@ -13,4 +14,5 @@ returns-in_err-exe g c =
 pub returns : goal.returns
 returns g c =
     let s = world (g.F.Shelf.seen c.args.shelf.now) (g.I.Source.seen c.args.input.now) (g.O.Sink.seen c.args.out.now) (g.R.Sink.seen c.args.report.now) in
-    c.in_ok-exe.ensures.goes s (λ exe. guest_plan c.args.steps (beginning exe (map string_bytes c.args.args.now))) _ _ (c.run_guest.ensures (g.F.Shelf.seen c.fetch_guest.new.shelf))
+    let t = world (g.F.Shelf.seen c.fetch_guest.new.shelf) (g.I.Source.seen c.run_guest.new.input) (g.O.Sink.seen c.run_guest.new.out) (g.R.Sink.seen c.run_guest.new.report) in
+    c.in_ok-exe.ensures.goes s (λ exe. guest_plan c.args.steps (beginning exe (map string_bytes c.args.args.now))) (end_of c.run_guest.result) t (c.run_guest.ensures (g.F.Shelf.seen c.fetch_guest.new.shelf))

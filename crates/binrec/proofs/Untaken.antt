@@ -1,0 +1,36 @@
+-- Commands that take nothing of the input.
+use Rattle.std.proofs.Common.{◌≡◌, ◌+◌, ℕ, List, [], ◌∷◌, length, Result, Ok, Err, ◌∙◌, ap, inl, inr}
+use Rattle.elf_read.specs.Elf.{elf}
+use Rattle.elf_read.specs.declared.exe.Reach.TheVariants.{Original}
+use Rattle.trace_file.specs.Edges.{Edge, union_of}
+use Rattle.trace_file.specs.Trace.{trace}
+use Rattle.binrec.specs.Plans.World.{World}
+use Rattle.binrec.specs.Plans.Plan.{Plan}
+use Rattle.binrec.specs.Plans.Parts.{checked}
+use Rattle.binrec.specs.Plans.Happened.{Happened}
+use Rattle.binrec.specs.Plans.Told.{NoInput}
+use Rattle.binrec.specs.Traces.{of_word, with_digest, edges_of_word, counted, traces_part, limited}
+use Rattle.binrec.specs.Commands.{store_part, merge_plan}
+use Rattle.binrec.specs.declared.acts.stop.Cause.{Cause}
+use Rattle.binrec.proofs.Plans.Quiet.{input_stays}
+
+-- neither the work nor the report line takes any
+pub untaken : (p : Plan) (s : World) (result : ℕ) (t : World) → NoInput p → Happened p s result t → t.input ≡ s.input
+untaken p s result t quiet (o, m, went, inl (four, same)) = ap (λ w. w.input) same ∙ input_stays p s o m quiet went
+untaken p s result t quiet (o, m, went, inr (v, told, same)) = ap (λ w. w.input) same ∙ input_stays p s o m quiet went
+
+checked_quiet : {X : Type 0} (r : Result X Cause) (next : X → Plan) → ((x : X) → NoInput (next x)) → NoInput (checked r next)
+unfolding NoInput
+checked_quiet (Ok x) next h = h x
+checked_quiet (Err cause) next h = tt
+
+traces_quiet : (digest : List ℕ) (names : List (List ℕ)) (word before : ℕ) (next : List (List Edge) → Plan) → ((traces : List (List Edge)) → NoInput (next traces)) → NoInput (traces_part digest names word before next)
+unfolding NoInput traces_part
+traces_quiet digest [] word before next h = h []
+traces_quiet digest (name ∷ names) word before next h =
+    λ bytes. checked_quiet (counted before (edges_of_word word (trace bytes digest))) _ (λ es. traces_quiet digest names (word + 1) (before + length es) (λ rest. next (es ∷ rest)) (λ rest. h (es ∷ rest)))
+
+pub merge_quiet : (target original : List ℕ) (names : List (List ℕ)) → NoInput (merge_plan target original names)
+unfolding NoInput
+merge_quiet target original names =
+    λ bytes. checked_quiet (with_digest bytes (of_word 2 (elf Original bytes))) _ (λ subject. traces_quiet subject.digest names 3 0 _ (λ traces. checked_quiet (limited (union_of traces)) (store_part target subject.digest) (λ es. tt)))
