@@ -5,7 +5,9 @@ pub mod Turning
 pub mod Taking
 pub mod Sparing
 pub mod Ending
+pub mod TourEnding
 pub mod RunMeant
+pub mod TraceMeant
 pub mod Untaken
 pub mod MergeMeant
 pub mod Runnings
