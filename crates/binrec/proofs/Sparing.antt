@@ -1,6 +1,6 @@
 -- What holds of each turn of a guest holds of each turn of every command. So no command takes more of the input than it uses,
 -- but in the last turn that reads, and none asks for more than it uses.
-use Rattle.std.proofs.Common.{◌≡◌, ◌⊎◌, ◌+◌, ℕ, zero, suc, List, [], ◌∷◌, length, Result, Ok, Err, refl, sym, subst, inl, inr}
+use Rattle.std.proofs.Common.{◌≡◌, ◌⊎◌, ◌+◌, nat_le, cond, Bool, true, false, ℕ, zero, suc, List, [], ◌∷◌, length, Result, Ok, Err, refl, sym, subst, inl, inr}
 use Rattle.br_word.specs.State.{Stop, Running, Exited, Faulted}
 use Rattle.ia_inst.specs.Step.{step}
 use Rattle.elf_read.specs.Elf.{elf}
@@ -18,7 +18,10 @@ use Rattle.binrec.specs.Guests.{guest_plan, next_guest, next_turn, stands}
 use Rattle.trace_file.specs.Edges.{Edge, union_of}
 use Rattle.trace_file.specs.Trace.{trace}
 use Rattle.binrec.specs.Traces.{of_word, with_digest, edges_of_word, counted, traces_part, limited}
-use Rattle.binrec.specs.Commands.{image_part, merge_plan, of_command, plan}
+use Rattle.tracer.specs.declared.answers.Traced.{Traced}
+use Rattle.tracer.specs.Tour.{traced, with_step, edge_limit, first_edge}
+use Rattle.binrec.specs.Tours.{tour_plan, unless_full}
+use Rattle.binrec.specs.Commands.{image_part, traced_part, trace_plan, merge_plan, of_command, plan}
 use Rattle.binrec.specs.declared.acts.stop.Cause.{Cause}
 use Rattle.binrec.proofs.Turning.{has_stopped}
 use Rattle.binrec.proofs.Taking.{guest_uses}
@@ -45,6 +48,36 @@ guest_turns P zero g each = tt
 guest_turns P (suc n) g each = while_turns P g.state.stop (Turns (next_turn g) (λ left. guest_plan n (next_guest g left))) (stands g)
     (λ running left. (guest_turns P n (next_guest g left) each, each g left (guest_plan n (next_guest g left)) running (λ not. stopped_quiet n (next_guest g left) not))) tt
 
+-- ---- a guest that is traced
+
+-- the edges fit, or are too many
+unless_too_many : (P : Plan → Type 0) (fits : Bool) (p q : Plan) → P p → P q → P (cond fits p q)
+unless_too_many P true p q a b = a
+unless_too_many P false p q a b = b
+
+stays_quiet : (x : Stop) (turns stays : Plan) → (x ≡ Running → ⊥) → NoInput stays → NoInput (while_running x turns stays)
+stays_quiet Running turns stays not quiet = absurd (not refl)
+stays_quiet (Exited n) turns stays not quiet = quiet
+stays_quiet (Faulted f) turns stays not quiet = quiet
+
+tour_quiet : (last : Traced → Plan) (n : ℕ) (g : GuestView) (es : List Edge) → ((t : Traced) → NoInput (last t)) → (g.state.stop ≡ Running → ⊥) → NoInput (tour_plan last n g es)
+unfolding tour_plan
+tour_quiet last zero g es quiet not = quiet (traced g es)
+tour_quiet last (suc n) g es quiet not = stays_quiet g.state.stop _ (last (traced g es)) not (quiet (traced g es))
+
+-- its last turn is followed by work that reads nothing
+tour_turns : (P : Turned → List ℕ → Plan → Type 0) (last : Traced → Plan) (n : ℕ) (g : GuestView) (es : List Edge) → OfGuests P → ((t : Traced) → NoInput (last t)) → ((t : Traced) → AllTurns P (last t)) → AllTurns P (tour_plan last n g es)
+unfolding AllTurns NoInput tour_plan
+tour_turns P last zero g es each quiet ends = ends (traced g es)
+tour_turns P last (suc n) g es each quiet ends =
+    let now : List ℕ → List Edge = λ left. with_step (next_guest g left).edge es in
+    while_turns P g.state.stop (Turns (next_turn g) (λ left. unless_full (tour_plan last n (next_guest g left)) (now left))) (last (traced g es))
+    (λ running left. (
+      unless_too_many (λ p. AllTurns P p) (nat_le (length (now left)) edge_limit) _ _ (tour_turns P last n (next_guest g left) (now left) each quiet ends) tt,
+      each g left _ running (λ not. unless_too_many (λ p. NoInput p) (nat_le (length (now left)) edge_limit) _ _ (tour_quiet last n (next_guest g left) (now left) quiet not) tt),
+    ))
+    (ends (traced g es))
+
 -- ---- the commands
 
 -- a check, and the work behind it
@@ -65,11 +98,17 @@ merge_turns P target original names =
     λ bytes. checked_turns P (with_digest bytes (of_word 2 (elf Original bytes))) _
     (λ subject. traces_turns P subject.digest names 3 0 _ (λ traces. checked_turns P (limited (union_of traces)) _ (λ es. tt)))
 
+trace_turns : (P : Turned → List ℕ → Plan → Type 0) (steps : ℕ) (target original : List ℕ) (args : List (List ℕ)) (word : ℕ) → OfGuests P → AllTurns P (trace_plan steps target original args word)
+unfolding AllTurns NoInput
+trace_turns P steps target original args word each =
+    λ bytes. checked_turns P (with_digest bytes (of_word word (elf Original bytes))) _
+    (λ subject. tour_turns P (traced_part target subject.digest) steps (beginning subject.exe args) (first_edge subject.exe ∷ []) each (λ t. tt) (λ t. tt))
+
 command_turns : (P : Turned → List ℕ → Plan → Type 0) (r : Result Asked ℕ) (word : ℕ) → OfGuests P → AllTurns P (of_command r word)
 unfolding AllTurns
 command_turns P (Ok (Builds name original traces)) word each = λ bytes. checked_turns P (of_word 2 (elf Original bytes)) (image_part name) (λ exe. tt)
 command_turns P (Ok (Runs steps name args)) word each = λ bytes. checked_turns P (of_word word (elf Guest bytes)) _ (λ exe. guest_turns P steps (beginning exe args) each)
-command_turns P (Ok (Traces k t e ts)) word each = tt
+command_turns P (Ok (Traces steps target original args)) word each = trace_turns P steps target original args (word + 1) each
 command_turns P (Ok (Merges target original names)) word each = merge_turns P target original names
 command_turns P (Ok (Shows e ts)) word each = tt
 command_turns P (Ok (Sessions e)) word each = tt
