@@ -150,7 +150,7 @@ turn_ran rest n g left running =
     let first' : undefined_taken (suc n) s ≡ bit (reads_undefined s) + undefined_taken n t = ap (λ x. while_running x (bit (reads_undefined s) + undefined_taken n t) 0) running in
     let ahead' : ahead v ≡ ahead u = sym (ap ahead is ∙ ahead_shown t.out t.err v) in
     let more : ahead t + while_running t.stop (ahead v) 0 ≡ while_running s.stop (ahead u) 0 =
-        ap (λ k. ahead t + while_running t.stop k 0) ahead' ∙ (spares_on t u n refl ∙ sym (ap (λ x. while_running x (ahead u) 0) running)) in
+    ap (λ k. ahead t + while_running t.stop k 0) ahead' ∙ (spares_on t u n refl ∙ sym (ap (λ x. while_running x (ahead u) 0) running)) in
     ap (λ e. turned_before (next_turn g left) (shown_before v (while_running t.stop (ahead v) 0) e))
     (rest_as rest v.stop u.stop v.input u.input _ _ _ _ (sym (ap (λ t. t.stop) is)) (sym (ap (λ t. t.input) is)) (omega (arith, steps, first)) (omega (arith, undefined, first')))
     ∙ shown_twice t v u (ahead t) (while_running t.stop (ahead v) 0) (while_running s.stop (ahead u) 0) _ more (sym (ap (λ t. t.out) is)) (sym (ap (λ t. t.err) is))

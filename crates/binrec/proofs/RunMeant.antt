@@ -16,7 +16,7 @@ use Rattle.binrec.specs.Words.{asked_by, first_name}
 use Rattle.binrec.specs.Plans.World.{World}
 use Rattle.binrec.specs.Plans.Texts.{End, end_text, stop_text, stop_status}
 use Rattle.binrec.specs.Plans.Parts.{checked}
-use Rattle.binrec.specs.Plans.Told.{Ending, ends_with, after_fetch, expected, LeavesBut, HasFailed, IsWhole, Decided, IsExact}
+use Rattle.binrec.specs.Plans.Told.{Store, Ending, ends_with, after_fetch, expected, LeavesBut, HasFailed, IsWhole, Decided, IsExact}
 use Rattle.binrec.specs.Guests.{last_line, guest_plan, finished}
 use Rattle.binrec.specs.Traces.{of_word}
 use Rattle.binrec.specs.Commands.{run_plan, of_command, plan}
@@ -56,9 +56,9 @@ while_le (Exited n) k = omega arith
 while_le (Faulted f) k = omega arith
 
 -- the steps up to a state have shown what they did, and then a line was reported
-pub has_shown : (x : Stop) (u : State) (end : End) (files files' : Files) (left : List ℕ) (s : World) (result : ℕ) (t : World) → s.input.bytes ≡ Some left
-    → IsWhole files left (shown_before u (while_running x (ahead u) 0) (ends_with end files' u.input)) s result t → HasShown u (end_text end) s t
-has_shown x u end files files' left s result t has w =
+pub has_shown : (x : Stop) (u : State) (stored : List Store) (end : End) (files files' : Files) (left : List ℕ) (s : World) (result : ℕ) (t : World) → s.input.bytes ≡ Some left
+    → IsWhole files left (shown_before u (while_running x (ahead u) 0) (record (ends_with end files' u.input) { stored = stored })) s result t → HasShown u (end_text end) s t
+has_shown x u stored end files files' left s result t has w =
     let i = w.input has in
     record {
       out = w.out ∙ ap (λ x. option_map (λ written. written ++ x) s.out.bytes) (append-nil u.out);
@@ -72,7 +72,7 @@ has_run : (n : ℕ) (exe : Exe) (args : List (List ℕ)) (files : Files) (left :
 has_run n exe args files left s result t told has w =
     let start = opening exe (arguments args) left in
     let u = run n start [] in
-    let h = has_shown start.stop u (Ok (finished u.stop (0 + steps_taken n start) (0 + undefined_taken n start))) files files left s result t has w in
+    let h = has_shown start.stop u [] (Ok (finished u.stop (0 + steps_taken n start) (0 + undefined_taken n start))) files files left s result t has w in
     let steps : 0 + steps_taken n start ≡ steps_taken n start = omega arith in
     let undefined : 0 + undefined_taken n start ≡ undefined_taken n start = omega arith in
     record {

@@ -58,7 +58,7 @@ has_traced target digest n exe args files left s result t told has w =
     let u = run n start [] in
     let es = edges_in exe start n in
     let made : Traced = record { edges = es; stop = answer_of u.stop; steps = 0 + steps_taken n start; undefined = 0 + undefined_taken n start } in
-    let h = has_shown start.stop u (Ok (traced_as made)) files (put target (Some (trace_bytes es digest)) files) left s result t has w in
+    let h = has_shown start.stop u (record { name = target; bytes = trace_bytes es digest } ∷ []) (Ok (traced_as made)) files (put target (Some (trace_bytes es digest)) files) left s result t has w in
     let line : traced_line (stop_of made.stop) made.steps made.undefined (length es) ≡ line_after n exe start = line_as _ _ _ _ _ _ (length es) (same_stop u.stop) (omega arith) (omega arith) in
     record {
       status = w.status ∙ ap (λ x. finish_status (finish_of x)) (same_stop u.stop);
@@ -73,7 +73,7 @@ has_filled k exe args files left s result t told has w =
     record {
       status = w.status;
       shelf = w.shelf told ∙ sym told;
-      shown = has_shown start.stop (run k start []) (Err (Because (Limited limits.Union))) files files left s result t has w;
+      shown = has_shown start.stop (run k start []) [] (Err (Because (Limited limits.Union))) files files left s result t has w;
     }
 
 toured : (target digest : List ℕ) (n : ℕ) (exe : Exe) (args : List (List ℕ)) (files : Files) (left : List ℕ) (s : World) (result : ℕ) (t : World) → s.shelf.files ≡ Some files → s.input.bytes ≡ Some left
@@ -101,8 +101,7 @@ fetched : (target : List ℕ) (n : ℕ) (args : List (List ℕ)) (word : ℕ) (f
 fetched target n args word files left s result t told has None w = not_begun (Outside objects.Shelf) files left s result t told has w
 fetched target n args word files left s result t told has (Some content) w =
     let by = chosen (λ e. IsWhole files left e s result t) (length content) 16777216 (expected (checked (with_digest content (of_word word (elf Original content))) (toured_part target n args)) files left)
-    (ends_with (Err (Because (Limited (limits.File 16777216)))) files left) w in
-    (
+    (ends_with (Err (Because (Limited (limits.File 16777216)))) files left) w in (
       λ short. read target n args word content files left s result t told has (elf Original content) (by.0 short),
       λ long. not_begun (Because (Limited (limits.File 16777216))) files left s result t told has (by.1 long),
     )
