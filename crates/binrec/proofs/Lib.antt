@@ -2,6 +2,7 @@ pub mod Plans
 pub mod Addresses
 pub mod Fitting
 pub mod Turning
+pub mod Touring
 pub mod Sparing
 pub mod Ending
 pub mod RunMeant
