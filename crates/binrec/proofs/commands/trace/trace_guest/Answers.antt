@@ -1,5 +1,5 @@
 use Rattle.std.proofs.Common.{Ok, Err, refl, ap, [], ◌∷◌, map, string_bytes}
-use Rattle.guest_run.specs.Guest.{beginning, streams}
+use Rattle.guest_run.specs.Guest.{beginning}
 use Rattle.tracer.specs.Tour.{first_edge}
 use Rattle.binrec.proofs.Touring.{tours}
 use Rattle.binrec.proofs.commands.trace.trace_guest.Goals as goal
