@@ -2,7 +2,7 @@ pub mod Plans
 pub mod Addresses
 pub mod Fitting
 pub mod Turning
-pub mod Touring
+pub mod Taking
 pub mod Sparing
 pub mod Ending
 pub mod RunMeant
@@ -12,6 +12,7 @@ pub mod Runnings
 pub mod Ends
 pub mod Checking
 pub mod Merging
+pub mod Touring
 pub mod Courses
 pub mod Meanings
 pub mod Tops

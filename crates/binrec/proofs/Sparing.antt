@@ -1,5 +1,6 @@
--- A guest takes more of the input than it uses in its last turn alone.
-use Rattle.std.proofs.Common.{◌≡◌, ◌⊎◌, ◌+◌, ℕ, zero, suc, List, [], ◌∷◌, length, Result, Ok, Err, refl, sym, ◌∙◌, subst, inl, inr}
+-- What holds of each turn of a guest holds of each turn of every command. So no command takes more of the input than it uses,
+-- but in the last turn that reads, and none asks for more than it uses.
+use Rattle.std.proofs.Common.{◌≡◌, ◌⊎◌, ◌+◌, nat_le, cond, Bool, true, false, ℕ, zero, suc, List, [], ◌∷◌, length, Result, Ok, Err, refl, sym, subst, inl, inr}
 use Rattle.br_word.specs.State.{Stop, Running, Exited, Faulted}
 use Rattle.ia_inst.specs.Step.{step}
 use Rattle.elf_read.specs.Elf.{elf}
@@ -9,22 +10,25 @@ use Rattle.guest_sys.specs.Calls.{spare}
 use Rattle.guest_run.specs.Guest.{GuestView, beginning, while_running, asks_next}
 use Rattle.word_reader.specs.Words.{Asked, Builds, Traces, Runs, Merges, Shows, Sessions, Demos}
 use Rattle.binrec.specs.Words.{asked_by, first_name}
-use Rattle.binrec.specs.Plans.Plan.{Plan, Turns}
+use Rattle.binrec.specs.Plans.Plan.{Plan, Turned, Turns}
 use Rattle.binrec.specs.Plans.Parts.{checked}
-use Rattle.binrec.specs.Plans.Told.{NoInput, IsSparing}
+use Rattle.binrec.specs.Plans.Told.{NoInput, AllTurns, IsSparing}
+use Rattle.binrec.specs.Plans.Partial.{IsTaking}
 use Rattle.binrec.specs.Guests.{guest_plan, next_guest, next_turn, stands}
 use Rattle.trace_file.specs.Edges.{Edge, union_of}
 use Rattle.trace_file.specs.Trace.{trace}
 use Rattle.binrec.specs.Traces.{of_word, with_digest, edges_of_word, counted, traces_part, limited}
-use Rattle.binrec.specs.Commands.{image_part, merge_plan, of_command, plan}
+use Rattle.tracer.specs.declared.answers.Traced.{Traced}
+use Rattle.tracer.specs.Tour.{traced, with_step, edge_limit, first_edge}
+use Rattle.binrec.specs.Tours.{tour_plan, unless_full}
+use Rattle.binrec.specs.Commands.{image_part, traced_part, trace_plan, merge_plan, of_command, plan}
 use Rattle.binrec.specs.declared.acts.stop.Cause.{Cause}
 use Rattle.binrec.proofs.Turning.{has_stopped}
+use Rattle.binrec.proofs.Taking.{guest_uses}
 
--- a check, and the work behind it
-checked_sparing : {X : Type 0} (r : Result X Cause) (next : X → Plan) → ((x : X) → IsSparing (next x)) → IsSparing (checked r next)
-unfolding IsSparing
-checked_sparing (Ok x) next h = h x
-checked_sparing (Err cause) next h = tt
+-- so is each turn of a guest that runs, with any work behind it that reads nothing once the guest has stopped
+abbrev pub OfGuests : (Turned → List ℕ → Plan → Type 0) → Type 0
+OfGuests P = (g : GuestView) (left : List ℕ) (rest : Plan) → g.state.stop ≡ Running → (((next_guest g left).state.stop ≡ Running → ⊥) → NoInput rest) → P (next_turn g left) left rest
 
 -- ---- a guest
 
@@ -33,49 +37,92 @@ stopped_quiet : (n : ℕ) (h : GuestView) → (h.state.stop ≡ Running → ⊥)
 unfolding NoInput
 stopped_quiet n h not = let P : Plan → Type 0 = λ p. NoInput p in subst P (sym (has_stopped n h not)) tt
 
--- what may be taken beyond is 0, or the guest has stopped
-spares : (n k : ℕ) (h : GuestView) (x : Stop) → x ≡ h.state.stop → (spare x k ≡ 0) ⊎ NoInput (guest_plan n h)
-spares n k h Running is = inl refl
-spares n k h (Exited status) is = inl refl
-spares n k h (Faulted f) is = inr (stopped_quiet n h (λ running. let e : Faulted f ≡ Running = is ∙ running in cc))
+pub while_turns : (P : Turned → List ℕ → Plan → Type 0) (x : Stop) (turns stays : Plan) → (x ≡ Running → AllTurns P turns) → AllTurns P stays → AllTurns P (while_running x turns stays)
+while_turns P Running turns stays p q = p refl
+while_turns P (Exited n) turns stays p q = q
+while_turns P (Faulted f) turns stays p q = q
 
-sparing_turns : (x : Stop) (turns stays : Plan) → IsSparing turns → IsSparing stays → IsSparing (while_running x turns stays)
-sparing_turns Running turns stays p q = p
-sparing_turns (Exited n) turns stays p q = q
-sparing_turns (Faulted f) turns stays p q = q
+guest_turns : (P : Turned → List ℕ → Plan → Type 0) (n : ℕ) (g : GuestView) → OfGuests P → AllTurns P (guest_plan n g)
+unfolding AllTurns guest_plan
+guest_turns P zero g each = tt
+guest_turns P (suc n) g each = while_turns P g.state.stop (Turns (next_turn g) (λ left. guest_plan n (next_guest g left))) (stands g)
+    (λ running left. (guest_turns P n (next_guest g left) each, each g left (guest_plan n (next_guest g left)) running (λ not. stopped_quiet n (next_guest g left) not))) tt
 
-guest_sparing : (n : ℕ) (g : GuestView) → IsSparing (guest_plan n g)
-unfolding IsSparing guest_plan
-guest_sparing zero g = tt
-guest_sparing (suc n) g = sparing_turns g.state.stop (Turns (next_turn g) (λ left. guest_plan n (next_guest g left))) (stands g)
-    (λ left. (guest_sparing n (next_guest g left), spares n (asks_next (step (fed left g.state) 0)) (next_guest g left) (step (fed left g.state) 0).stop refl)) tt
+-- ---- a guest that is traced
 
--- ---- traces
+-- the edges fit, or are too many
+unless_too_many : (P : Plan → Type 0) (fits : Bool) (p q : Plan) → P p → P q → P (cond fits p q)
+unless_too_many P true p q a b = a
+unless_too_many P false p q a b = b
 
-traces_sparing : (digest : List ℕ) (names : List (List ℕ)) (word before : ℕ) (next : List (List Edge) → Plan) → ((traces : List (List Edge)) → IsSparing (next traces)) → IsSparing (traces_part digest names word before next)
-unfolding IsSparing traces_part
-traces_sparing digest [] word before next h = h []
-traces_sparing digest (name ∷ names) word before next h =
-    λ bytes. checked_sparing (counted before (edges_of_word word (trace bytes digest))) _ (λ es. traces_sparing digest names (word + 1) (before + length es) (λ rest. next (es ∷ rest)) (λ rest. h (es ∷ rest)))
+stays_quiet : (x : Stop) (turns stays : Plan) → (x ≡ Running → ⊥) → NoInput stays → NoInput (while_running x turns stays)
+stays_quiet Running turns stays not quiet = absurd (not refl)
+stays_quiet (Exited n) turns stays not quiet = quiet
+stays_quiet (Faulted f) turns stays not quiet = quiet
 
-merge_sparing : (target original : List ℕ) (names : List (List ℕ)) → IsSparing (merge_plan target original names)
-unfolding IsSparing
-merge_sparing target original names =
-    λ bytes. checked_sparing (with_digest bytes (of_word 2 (elf Original bytes))) _
-    (λ subject. traces_sparing subject.digest names 3 0 _ (λ traces. checked_sparing (limited (union_of traces)) _ (λ es. tt)))
+tour_quiet : (last : Traced → Plan) (n : ℕ) (g : GuestView) (es : List Edge) → ((t : Traced) → NoInput (last t)) → (g.state.stop ≡ Running → ⊥) → NoInput (tour_plan last n g es)
+unfolding tour_plan
+tour_quiet last zero g es quiet not = quiet (traced g es)
+tour_quiet last (suc n) g es quiet not = stays_quiet g.state.stop _ (last (traced g es)) not (quiet (traced g es))
+
+-- its last turn is followed by work that reads nothing
+tour_turns : (P : Turned → List ℕ → Plan → Type 0) (last : Traced → Plan) (n : ℕ) (g : GuestView) (es : List Edge) → OfGuests P → ((t : Traced) → NoInput (last t)) → ((t : Traced) → AllTurns P (last t)) → AllTurns P (tour_plan last n g es)
+unfolding AllTurns NoInput tour_plan
+tour_turns P last zero g es each quiet ends = ends (traced g es)
+tour_turns P last (suc n) g es each quiet ends =
+    let now : List ℕ → List Edge = λ left. with_step (next_guest g left).edge es in
+    while_turns P g.state.stop (Turns (next_turn g) (λ left. unless_full (tour_plan last n (next_guest g left)) (now left))) (last (traced g es))
+    (λ running left. (
+      unless_too_many (λ p. AllTurns P p) (nat_le (length (now left)) edge_limit) _ _ (tour_turns P last n (next_guest g left) (now left) each quiet ends) tt,
+      each g left _ running (λ not. unless_too_many (λ p. NoInput p) (nat_le (length (now left)) edge_limit) _ _ (tour_quiet last n (next_guest g left) (now left) quiet not) tt),
+    ))
+    (ends (traced g es))
 
 -- ---- the commands
 
-command_sparing : (r : Result Asked ℕ) (word : ℕ) → IsSparing (of_command r word)
-unfolding IsSparing
-command_sparing (Ok (Builds name original traces)) word = λ bytes. checked_sparing (of_word 2 (elf Original bytes)) (image_part name) (λ exe. tt)
-command_sparing (Ok (Runs steps name args)) word = λ bytes. checked_sparing (of_word word (elf Guest bytes)) _ (λ exe. guest_sparing steps (beginning exe args))
-command_sparing (Ok (Traces k t e ts)) word = tt
-command_sparing (Ok (Merges target original names)) word = merge_sparing target original names
-command_sparing (Ok (Shows e ts)) word = tt
-command_sparing (Ok (Sessions e)) word = tt
-command_sparing (Ok (Demos n)) word = tt
-command_sparing (Err at) word = tt
+-- a check, and the work behind it
+checked_turns : {X : Type 0} (P : Turned → List ℕ → Plan → Type 0) (r : Result X Cause) (next : X → Plan) → ((x : X) → AllTurns P (next x)) → AllTurns P (checked r next)
+unfolding AllTurns
+checked_turns P (Ok x) next h = h x
+checked_turns P (Err cause) next h = tt
+
+traces_turns : (P : Turned → List ℕ → Plan → Type 0) (digest : List ℕ) (names : List (List ℕ)) (word before : ℕ) (next : List (List Edge) → Plan) → ((traces : List (List Edge)) → AllTurns P (next traces)) → AllTurns P (traces_part digest names word before next)
+unfolding AllTurns traces_part
+traces_turns P digest [] word before next h = h []
+traces_turns P digest (name ∷ names) word before next h =
+    λ bytes. checked_turns P (counted before (edges_of_word word (trace bytes digest))) _ (λ es. traces_turns P digest names (word + 1) (before + length es) (λ rest. next (es ∷ rest)) (λ rest. h (es ∷ rest)))
+
+merge_turns : (P : Turned → List ℕ → Plan → Type 0) (target original : List ℕ) (names : List (List ℕ)) → AllTurns P (merge_plan target original names)
+unfolding AllTurns
+merge_turns P target original names =
+    λ bytes. checked_turns P (with_digest bytes (of_word 2 (elf Original bytes))) _
+    (λ subject. traces_turns P subject.digest names 3 0 _ (λ traces. checked_turns P (limited (union_of traces)) _ (λ es. tt)))
+
+trace_turns : (P : Turned → List ℕ → Plan → Type 0) (steps : ℕ) (target original : List ℕ) (args : List (List ℕ)) (word : ℕ) → OfGuests P → AllTurns P (trace_plan steps target original args word)
+unfolding AllTurns NoInput
+trace_turns P steps target original args word each =
+    λ bytes. checked_turns P (with_digest bytes (of_word word (elf Original bytes))) _
+    (λ subject. tour_turns P (traced_part target subject.digest) steps (beginning subject.exe args) (first_edge subject.exe ∷ []) each (λ t. tt) (λ t. tt))
+
+command_turns : (P : Turned → List ℕ → Plan → Type 0) (r : Result Asked ℕ) (word : ℕ) → OfGuests P → AllTurns P (of_command r word)
+unfolding AllTurns
+command_turns P (Ok (Builds name original traces)) word each = λ bytes. checked_turns P (of_word 2 (elf Original bytes)) (image_part name) (λ exe. tt)
+command_turns P (Ok (Runs steps name args)) word each = λ bytes. checked_turns P (of_word word (elf Guest bytes)) _ (λ exe. guest_turns P steps (beginning exe args) each)
+command_turns P (Ok (Traces steps target original args)) word each = trace_turns P steps target original args (word + 1) each
+command_turns P (Ok (Merges target original names)) word each = merge_turns P target original names
+command_turns P (Ok (Shows e ts)) word each = tt
+command_turns P (Ok (Sessions e)) word each = tt
+command_turns P (Ok (Demos n)) word each = tt
+command_turns P (Err at) word each = tt
+
+-- what may be taken beyond is 0, or the guest has stopped
+spares : (rest : Plan) (k : ℕ) (x : Stop) → ((x ≡ Running → ⊥) → NoInput rest) → (spare x k ≡ 0) ⊎ NoInput rest
+spares rest k Running quiet = inl refl
+spares rest k (Exited status) quiet = inl refl
+spares rest k (Faulted f) quiet = inr (quiet (λ running. cc))
 
 pub sparing : (words : List (List ℕ)) → IsSparing (plan words)
-sparing words = command_sparing (asked_by words) (first_name words)
+sparing words = command_turns _ (asked_by words) (first_name words) (λ g left rest running quiet. spares rest (asks_next (step (fed left g.state) 0)) (step (fed left g.state) 0).stop quiet)
+
+pub taking : (words : List (List ℕ)) → IsTaking (plan words)
+taking words = command_turns _ (asked_by words) (first_name words) (λ g left rest running quiet. guest_uses g left running)

@@ -1,6 +1,7 @@
 //! A recompiler for static i386 executables.
 //!
-//! `build N E` reads the executable E and stores, as N, a file that does what E does.
+//! `build N E` reads the executable E and stores, as N, a file that does what E does. `run` and `trace` run an
+//! executable in a machine of the program's own, and `trace` and `merge` store the control-flow edges of runs.
 #![tactic(auto)]
 
 mod acts;

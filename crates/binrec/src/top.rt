@@ -65,29 +65,42 @@ fn work<F: Shelf, I: Source, O: Sink, R: Sink>(
 
 /// Does what the words after the program's name ask for, and answers its status.
 ///
-/// `build N E` fetches E, of at most 16777216 bytes, and stores as N a file that does what E does.
-/// It takes nothing of the input and prints nothing on `out`. A name is a text of 1 to 4096 bytes.
+/// | Words | What is done | Line with status 0 |
+/// |---|---|---|
+/// | `build N E` | stores as N a file that does what E does | `built 0 5 L`, L the length of N in bytes |
+/// | `trace [--steps K] T E WORD..` | runs E for at most K steps, and stores the edges of the steps as T | `exit S steps M undefined U edges P` |
+/// | `run [--steps K] E WORD..` | runs E for at most K steps | `exit S steps M undefined U` |
+/// | `merge T E T..` | stores the union of the later traces of E as the first T | `merged P` |
+///
+/// A name is a text of 1 to 4096 bytes; at most 4096 traces are fetched. K is 1 to 18 decimal digits, and
+/// 100000000 where it is not given. A guest takes its input of `input`, prints on `out` and reports on
+/// `report`; `build` and `merge` take and print nothing. S is the guest's status, M the number of its
+/// steps, U how many of them read a flag that was not defined, and P a number of edges.
 ///
 /// The last call gives the report line:
 ///
 /// | Status | When | Line |
 /// |---|---|---|
-/// | 0 | all was done | `built 0 5 L`, L the length of N in bytes |
+/// | 0 | all was done; the guest exited | as above |
 /// | 1 | the words are no command | `usage W`, W the position of the first wrong word, from 0, or the number of words where one is missing |
-/// | 2 | E is refused as an original | `refused word 2 K P`, with the refusal's number and its place in E |
-/// | 3 | a call of the shelf failed, or the report line could not be given | `outside shelf` |
+/// | 2 | a file is refused, the first in the order of the words | `refused word W K P`, with the position of its word, the refusal's number and its place in the file |
+/// | 3 | a call of an object failed, or a name is absent, or the report line could not be given | `outside shelf`, `outside input`, `outside output` or `outside report` |
 /// | 4 | want of memory | `memory` |
-/// | 7 | E is too long | `limit file 16777216` |
+/// | 5 | the guest faulted | `fault KIND ADDRESS` and the counts of status 0 |
+/// | 6 | after K steps the guest still ran | `budget` and the counts of status 0 |
+/// | 7 | a limit is passed | `limit file 16777216` (268435456 for `run`), `limit edges 16777216` for all traces of `merge`, `limit union 2000000` for what is stored as a trace |
 ///
-/// The first cause in the order of the work decides, but a report line that cannot be given makes
-/// the status 3, or 4 where the sink wants memory, in place of any other. After 1, 2 and 7 nothing is
-/// stored. After 4 the file may be stored, and after 3 where the report failed; where the store
-/// itself failed, what N holds is not known. No other name changes.
+/// The first cause in the order of the work decides: E comes before the traces, each file is fetched,
+/// measured, read and counted before the next, and a fault of an object stands at the call that met it. But
+/// a report line that cannot be given makes the status 3, or 4 where the sink wants memory, in place of any
+/// other. `trace` stores its file before the report line of 0, 5 and 6. After 1, 2 and 7 nothing is stored.
+/// After 4 the file may be stored, and after 3 where the report failed; where the store itself failed, what
+/// its name holds is not known. No other name changes.
 ///
 /// The clauses: `happened`, the calls made are those of the command's plan and no others; `exact`
 /// and `complete`, over objects that tell what they hold the answer is the expected one, unless memory
-/// is wanting or an object fails; `cause`, status 3 names an object whose count rose; `usage` and
-/// `build`, what the statuses mean.
+/// is wanting or an object fails; `cause`, status 3 names an object whose count rose; `usage`, `build`, `run`,
+/// `trace` and `merge`, what the statuses mean.
 pub fn binrec<F: Shelf, I: Source, O: Sink, R: Sink>(
     alloc: Global,
     words: &[String],

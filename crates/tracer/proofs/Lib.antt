@@ -1,2 +1,5 @@
 pub mod Recorded
 pub mod Tours
+pub mod Onward
+pub mod Courses
+pub mod Telling

@@ -31,7 +31,7 @@ impl Model for Recorder {
 }
 
 impl Recorder {
-    /// With one edge.
+    /// With one edge. The only error is want of memory.
     pub fn of(alloc: Global, first: (u32, u32)) -> Result<Recorder, AllocError>
         ensures { IfOk result (λ r. r ≡ first ∷ []) }
     {
@@ -54,7 +54,7 @@ impl Recorder {
         }
     }
 
-    /// The edges in order.
+    /// The edges in order. The only error is want of memory.
     pub fn edges(&self, alloc: Global) -> Result<Edges, AllocError>
         ensures value { IfOk result (λ edges. edges ≡ self.now) }
         ensures few { IfOk result (λ edges. length edges ≤ edge_limit) }

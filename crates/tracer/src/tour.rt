@@ -5,7 +5,7 @@ ghost use Rattle.guest_run.specs.Opening.{FitArguments, opening, arguments};
 ghost use Rattle.guest_run.specs.Guest.{beginning, streams};
 ghost use Rattle.guest_sys.specs.Streams.{Streams};
 ghost use Rattle.tracer.specs.Tour.{Tour, Rests, first_edge, edge_limit};
-// ghost use Rattle.tracer.specs.Told.{TraceGives};
+ghost use Rattle.tracer.specs.Told.{TraceGives};
 
 use crate::answers::{Traced, TracingError};
 use crate::recorder::Recorder;
@@ -40,6 +40,31 @@ fn follow<I: Source, O: Sink, E: Sink>(
     Ok(())
 }
 
+/// The trace of a guest from where it stands, with the edges that are recorded already.
+fn trace_guest<I: Source, O: Sink, E: Sink>(
+    alloc: Global,
+    mut guest: Guest,
+    mut recorder: Recorder,
+    budget: u64,
+    input: &mut I,
+    out: &mut O,
+    err: &mut E,
+) -> Result<Traced, TracingError>
+    requires live { guest.live ≡ true }
+    requires room { guest.steps + budget ≤ 10 ^ 18 }
+    requires few { length recorder ≤ edge_limit }
+    ensures few { IfOk result (λ t. length t.edges ≤ edge_limit) }
+    ensures tour { Tour budget guest recorder result (streams (I.seen input.old) (O.seen out.old) (E.seen err.old)) (streams (I.seen input.new) (O.seen out.new) (E.seen err.new)) }
+{
+    follow(&mut guest, &mut recorder, budget, input, out, err)?;
+    Ok(Traced {
+        edges: recorder.edges(alloc)?,
+        stop: guest.stop(),
+        steps: guest.steps(),
+        undefined: guest.undefined(),
+    })
+}
+
 /// Runs an executable as a guest that is given these words, for at most `budget` steps with the choice 0,
 /// and answers the edges of the steps that it took, in order: the pair of 0 and the entry, and for each
 /// transfer (Jcc, JMP, CALL, RET) that did not fault the pair of its address and the eip after it, for a
@@ -67,16 +92,10 @@ pub fn trace<I: Source, O: Sink, E: Sink>(
     ensures few { IfOk result (λ t. length t.edges ≤ edge_limit) }
     ensures tour { Tour budget (beginning exe.now (map string_bytes args.now)) (first_edge exe.now ∷ []) result
         (streams (I.seen input.old) (O.seen out.old) (E.seen err.old)) (streams (I.seen input.new) (O.seen out.new) (E.seen err.new)) }
-// ensures told { IfSome (I.seen input.old).bytes (λ left. TraceGives result budget exe.now (opening exe.now (arguments (map string_bytes args.now)) left)
-// (streams (I.seen input.old) (O.seen out.old) (E.seen err.old)) (streams (I.seen input.new) (O.seen out.new) (E.seen err.new))) }
+    ensures told { IfSome (I.seen input.old).bytes (λ left. TraceGives result budget exe.now (opening exe.now (arguments (map string_bytes args.now)) left)
+        (streams (I.seen input.old) (O.seen out.old) (E.seen err.old)) (streams (I.seen input.new) (O.seen out.new) (E.seen err.new))) }
 {
-    let mut guest = Guest::of(alloc, exe, args)?;
-    let mut recorder = Recorder::of(alloc, (0, exe.entry))?;
-    follow(&mut guest, &mut recorder, budget, input, out, err)?;
-    Ok(Traced {
-        edges: recorder.edges(alloc)?,
-        stop: guest.stop(),
-        steps: guest.steps(),
-        undefined: guest.undefined(),
-    })
+    let guest = Guest::of(alloc, exe, args)?;
+    let recorder = Recorder::of(alloc, (0, exe.entry))?;
+    trace_guest(alloc, guest, recorder, budget, input, out, err)
 }

@@ -32,19 +32,20 @@ input_stays (Prints text next) s o t quiet (inr (v, Err sink_errors.Failed, was,
 input_stays (Prints text next) s o t quiet (inr (v, Err sink_errors.Memory, was, went)) = ap (λ w. w.input) went.1
 input_stays (Turns turn next) s o t quiet went = absurd quiet
 
-after_fetch_all : (limit : ℕ) (next : List ℕ → Ending) (files : Files) (left : List ℕ) → ((bytes : List ℕ) → (next bytes).left ≡ left) → (c : Option (List ℕ)) → (after_fetch limit next files left c).left ≡ left
-after_fetch_all limit next files left all None = refl
-after_fetch_all limit next files left all (Some bytes) = by_test (nat_le (length bytes) limit)
+-- what comes of a fetch: what is behind it, or an end
+pub after_each : (P : Ending → Type 0) (limit : ℕ) (next : List ℕ → Ending) (files : Files) (left : List ℕ) → ((bytes : List ℕ) → P (next bytes)) → ((end : End) → P (ends_with end files left)) → (c : Option (List ℕ)) → P (after_fetch limit next files left c)
+after_each P limit next files left here ends None = ends _
+after_each P limit next files left here ends (Some bytes) = by_test (nat_le (length bytes) limit)
   where
-    by_test : (b : Bool) → (cond b (next bytes) (ends_with (Err (Because (Limited (limits.File limit)))) files left)).left ≡ left
-    by_test true = all bytes
-    by_test false = refl
+    by_test : (b : Bool) → P (cond b (next bytes) (ends_with (Err (Because (Limited (limits.File limit)))) files left))
+    by_test true = here bytes
+    by_test false = ends _
 
 -- it comes to an end with all of the input left
 pub leaves_all : (p : Plan) (files : Files) (left : List ℕ) → NoInput p → (expected p files left).left ≡ left
 unfolding expected NoInput
 leaves_all (Ends end) files left quiet = refl
-leaves_all (Fetches name limit next) files left quiet = after_fetch_all limit (λ bytes. expected (next bytes) files left) files left (λ bytes. leaves_all (next bytes) files left (quiet bytes)) (files name)
+leaves_all (Fetches name limit next) files left quiet = after_each (λ e. e.left ≡ left) limit (λ bytes. expected (next bytes) files left) files left (λ bytes. leaves_all (next bytes) files left (quiet bytes)) (λ end. refl) (files name)
 leaves_all (Stores name bytes next) files left quiet = leaves_all next (put name (Some bytes) files) left quiet
 leaves_all (Prints text next) files left quiet = leaves_all next files left quiet
 leaves_all (Turns turn next) files left quiet = absurd quiet

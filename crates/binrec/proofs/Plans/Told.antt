@@ -1,4 +1,4 @@
-use Rattle.std.proofs.Common.{◌≡◌, ◌⊎◌, ◌<◌, ◌≤◌, ◌+◌, nat_le, ℕ, List, [], ◌++◌, length, drop, Option, Some, None, Ok, Err, IsTrue, IfSome, refl, sym, ◌∙◌, ap, subst, inl, inr, arith}
+use Rattle.std.proofs.Common.{◌≡◌, ◌⊎◌, ◌<◌, ◌≤◌, ◌+◌, nat_le, ℕ, List, [], ◌∷◌, ◌++◌, length, drop, Option, Some, None, Ok, Err, IsTrue, IfSome, refl, sym, ◌∙◌, ap, subst, inl, inr, arith}
 use Rattle.std.specs.Option.{option_map}
 use Rattle.std.proofs.lemmas.Bool.{le-leb, lt-leb, cond-true, cond-false}
 use Rattle.br_outside.specs.Files.{Files, put}
@@ -14,7 +14,7 @@ use Rattle.binrec.specs.declared.acts.stop.Cause.TheVariants.{Limited}
 use Rattle.binrec.specs.declared.acts.stop.Object.{Object}
 use Rattle.binrec.specs.declared.acts.stop.Object.TheVariants as objects
 use Rattle.binrec.specs.declared.acts.stop.Limit.TheVariants as limits
-use Rattle.binrec.specs.Plans.Told.{Ending, ends_with, after_fetch, turned_before, expected, NoFiles, NoInput, IsSparing, LeavesBut, IsTold, HasFailed}
+use Rattle.binrec.specs.Plans.Told.{Store, Ending, ends_with, after_fetch, turned_before, expected, NoFiles, NoInput, AllTurns, IsSparing, LeavesBut, IsTold, HasFailed}
 use Rattle.binrec.proofs.Plans.Steps.{IsKept, nothing, two_texts, shelf_kept, out_kept, rises, fails_later, no_fault}
 use Rattle.binrec.proofs.Plans.Turns.{turned_kept}
 use Rattle.binrec.proofs.Plans.Quiet.{input_stays, leaves_all}
@@ -51,10 +51,10 @@ still : (files : Files) (left : List ℕ) (s : World) → IsStep files left file
 still files left s = shelf_step files files left s s.shelf (omega arith) refl (λ h. h)
 
 -- what comes after a step
-done_after : (files : Files) (left : List ℕ) (files' : Files) (left' printed reported : List ℕ) (e : Ending) (s m : World) (o : End) (t : World)
+done_after : (files : Files) (left : List ℕ) (files' : Files) (left' printed reported : List ℕ) (stored : List Store) (e : Ending) (s m : World) (o : End) (t : World)
     → IsStep files left files' left' printed reported s m → IsDone files' left' e m o t
-    → IsDone files left (record e { printed = printed ++ e.printed; reported = reported ++ e.reported }) s o t
-done_after files left files' left' printed reported e s m o t step done = record {
+    → IsDone files left (record e { stored = stored ++ e.stored; printed = printed ++ e.printed; reported = reported ++ e.reported }) s o t
+done_after files left files' left' printed reported stored e s m o t step done = record {
   ends = done.ends;
   shelf = λ h. done.shelf (step.shelf h);
   input = λ h. done.input (step.input h);
@@ -63,12 +63,12 @@ done_after files left files' left' printed reported e s m o t step done = record
   rose = λ h. rises s.shelf.faults m.shelf.faults t.shelf.faults (step.kept.later objects.Shelf) (done.rose h);
 }
 
-after : (files : Files) (left : List ℕ) (files' : Files) (left' printed reported : List ℕ) (e : Ending) (s m : World) (o : End) (t : World)
+after : (files : Files) (left : List ℕ) (files' : Files) (left' printed reported : List ℕ) (stored : List Store) (e : Ending) (s m : World) (o : End) (t : World)
     → IsStep files left files' left' printed reported s m → Follows files' left' e m o t
-    → Follows files left (record e { printed = printed ++ e.printed; reported = reported ++ e.reported }) s o t
-after files left files' left' printed reported e s m o t step (inl memory) = inl memory
-after files left files' left' printed reported e s m o t step (inr (inl (x, is, failed))) = inr (inl (x, is, fails_later x s m t step.kept failed))
-after files left files' left' printed reported e s m o t step (inr (inr done)) = inr (inr (done_after files left files' left' printed reported e s m o t step done))
+    → Follows files left (record e { stored = stored ++ e.stored; printed = printed ++ e.printed; reported = reported ++ e.reported }) s o t
+after files left files' left' printed reported stored e s m o t step (inl memory) = inl memory
+after files left files' left' printed reported stored e s m o t step (inr (inl (x, is, failed))) = inr (inl (x, is, fails_later x s m t step.kept failed))
+after files left files' left' printed reported stored e s m o t step (inr (inr done)) = inr (inr (done_after files left files' left' printed reported stored e s m o t step done))
 
 -- the end stands where a step came to
 stops_at : (files : Files) (left : List ℕ) (files' : Files) (left' : List ℕ) (end : End) (s m : World) (o : End) (t : World)
@@ -84,7 +84,7 @@ failed_at x s m t same rose loud = let P : World → Type 0 = λ t. HasFailed x 
 pub told_to : {A : Type 0} (o : Option A) (a : A) (P : A → Type 0) → o ≡ Some a → IfSome o P → P a
 told_to {A} o a P is h = let Q : Option A → Type 0 = λ o. IfSome o P in subst Q is h
 
-fetch_ok : (limit : ℕ) (next : List ℕ → Ending) (files : Files) (left bytes : List ℕ) (c : Option (List ℕ)) → c ≡ Some bytes → length bytes ≤ limit → next bytes ≡ after_fetch limit next files left c
+pub fetch_ok : (limit : ℕ) (next : List ℕ → Ending) (files : Files) (left bytes : List ℕ) (c : Option (List ℕ)) → c ≡ Some bytes → length bytes ≤ limit → next bytes ≡ after_fetch limit next files left c
 fetch_ok limit next files left bytes c here short = rw here (sym (cond-true (nat_le (length bytes) limit) (next bytes) _ (le-leb (length bytes) limit short)))
 
 fetch_long : (limit : ℕ) (next : List ℕ → Ending) (files : Files) (left bytes : List ℕ) (c : Option (List ℕ)) → c ≡ Some bytes → limit < length bytes
@@ -112,25 +112,25 @@ long_fetch limit next files left name s v o t told was is same =
     (stops_at files left files left _ s (on_shelf s v) o t (shelf_step files files left s v was.later was.calm (λ h. was.same ∙ h)) is same (λ h. cc))
 
 -- what a plan that asks the shelf, or the input, is told
-asked : {A B : Type 0} → A ⊎ B → (A → ⊥) → B
+pub asked : {A B : Type 0} → A ⊎ B → (A → ⊥) → B
 asked (inl a) none = absurd (none a)
 asked (inr b) none = b
 
-either : {A B C D : Type 0} → A ⊎ B → (A → C) → (B → D) → C ⊎ D
+pub either : {A B C D : Type 0} → A ⊎ B → (A → C) → (B → D) → C ⊎ D
 either (inl a) f g = inl (f a)
 either (inr b) f g = inr (g b)
 
 -- the files of a plan that stores are told
-stored_files : (name bytes : List ℕ) (files : Files) (s : World) (v : ShelfView) (u : Unit {0}) → Stored name bytes (Ok u) s.shelf v → s.shelf.files ≡ Some files → v.files ≡ Some (put name (Some bytes) files)
+pub stored_files : (name bytes : List ℕ) (files : Files) (s : World) (v : ShelfView) (u : Unit {0}) → Stored name bytes (Ok u) s.shelf v → s.shelf.files ≡ Some files → v.files ≡ Some (put name (Some bytes) files)
 stored_files name bytes files s v u was told = was.gives.0 ∙ ap (option_map (put name (Some bytes))) told
 
 -- ---- a turn
 
-input_after : (d : Turned) (left : List ℕ) (s m : World) (h : IsTurned d s m) → s.input.bytes ≡ Some left → m.input.bytes ≡ Some (drop h.more d.left)
+pub input_after : (d : Turned) (left : List ℕ) (s m : World) (h : IsTurned d s m) → s.input.bytes ≡ Some left → m.input.bytes ≡ Some (drop h.more d.left)
 input_after d left s m h has = told_to s.input.bytes left (λ b. m.input.bytes ≡ Some (drop h.more d.left)) has h.input.bytes
 
 -- nothing more was taken than the turn uses
-used_alone : (d : Turned) (left : List ℕ) (s m : World) (h : IsTurned d s m) → s.input.bytes ≡ Some left → d.spare ≡ 0 → m.input.bytes ≡ Some d.left
+pub used_alone : (d : Turned) (left : List ℕ) (s m : World) (h : IsTurned d s m) → s.input.bytes ≡ Some left → d.spare ≡ 0 → m.input.bytes ≡ Some d.left
 used_alone d left s m h has none = input_after d left s m h has ∙ ap (λ n. Some (drop n d.left)) (let z : h.more ≡ 0 = omega (arith, h.few) in z)
 
 -- a turn, and then what comes after it; what is left of the input is told apart
@@ -176,7 +176,7 @@ turn_follows d q files left s o t has shelf sparing then (FailsReport h) = inr (
 turn_follows d q files left s o t has shelf sparing then (WantsMemory h) = inl h.ends
 
 pub follows : (p : Plan) (files : Files) (left : List ℕ) (s : World) (o : End) (t : World) → IsSparing p → IsTold p files left s → Went p s o t → Follows files left (expected p files left) s o t
-unfolding Went expected NoFiles NoInput IsSparing
+unfolding Went expected NoFiles NoInput AllTurns
 follows (Ends end) files left s o t sparing told (inl out) = inl out.0
 follows (Ends end) files left s o t sparing told (inr (is, same)) = stops_at files left files left _ s s o t (still files left s) is same (λ h. absurd (no_fault end o objects.Shelf is h))
 follows (Fetches name limit next) files left s o t sparing told (inl out) = inl out.0
@@ -185,7 +185,7 @@ follows (Fetches name limit next) files left s o t sparing told (inr (v, Ok byte
     let here : files name ≡ Some bytes = told_to s.shelf.files files (λ f. f name ≡ Some bytes) holds was.gives.1 in
     let P : Ending → Type 0 = λ e. Follows files left e s o t in
     subst P (fetch_ok limit (λ bytes. expected (next bytes) files left) files left bytes (files name) here was.gives.0)
-    (after files left files left [] [] _ s (on_shelf s v) o t (shelf_step files files left s v was.later was.calm (λ h. was.same ∙ h))
+    (after files left files left [] [] [] _ s (on_shelf s v) o t (shelf_step files files left s v was.later was.calm (λ h. was.same ∙ h))
     (follows (next bytes) files left (on_shelf s v) o t (sparing bytes) (record { shelf = inr (was.same ∙ holds); input = either told.input (λ a. a bytes) (λ b. b) }) went))
 follows (Fetches name limit next) files left s o t sparing told (inr (v, Err shelf_errors.Failed, was, went)) =
     failed_fetch limit (λ bytes. expected (next bytes) files left) files left name s v o t (asked told.shelf (λ a. a)) was went.0 went.1 (files name) refl
@@ -195,13 +195,13 @@ follows (Fetches name limit next) files left s o t sparing told (inr (v, Err she
 follows (Stores name bytes next) files left s o t sparing told (inl out) = inl out.0
 follows (Stores name bytes next) files left s o t sparing told (inr (v, Ok u, was, went)) =
     let holds : s.shelf.files ≡ Some files = asked told.shelf (λ a. a) in
-    after files left (put name (Some bytes) files) left [] [] _ s (on_shelf s v) o t (shelf_step files (put name (Some bytes) files) left s v was.later was.calm (stored_files name bytes files s v u was))
+    after files left (put name (Some bytes) files) left [] [] (record { name = name; bytes = bytes } ∷ []) _ s (on_shelf s v) o t (shelf_step files (put name (Some bytes) files) left s v was.later was.calm (stored_files name bytes files s v u was))
     (follows next (put name (Some bytes) files) left (on_shelf s v) o t sparing (record { shelf = inr (stored_files name bytes files s v u was holds); input = told.input }) went)
 follows (Stores name bytes next) files left s o t sparing told (inr (v, Err store_errors.Failed, was, went)) = inr (inl (objects.Shelf, went.0, failed_at objects.Shelf s (on_shelf s v) t went.1 was.gives.1 was.gives.2))
 follows (Stores name bytes next) files left s o t sparing told (inr (v, Err store_errors.Memory, was, went)) = inl went.0
 follows (Prints text next) files left s o t sparing told (inl out) = inl out.0
 follows (Prints text next) files left s o t sparing told (inr (v, Ok u, was, went)) =
-    after files left files left text [] _ s (on_out s v) o t (out_step files left text s v was.later was.calm was.gives.0) (follows next files left (on_out s v) o t sparing (record { shelf = told.shelf; input = told.input }) went)
+    after files left files left text [] [] _ s (on_out s v) o t (out_step files left text s v was.later was.calm was.gives.0) (follows next files left (on_out s v) o t sparing (record { shelf = told.shelf; input = told.input }) went)
 follows (Prints text next) files left s o t sparing told (inr (v, Err sink_errors.Failed, was, went)) = inr (inl (objects.Output, went.0, failed_at objects.Output s (on_out s v) t went.1 was.gives.1 was.gives.2))
 follows (Prints text next) files left s o t sparing told (inr (v, Err sink_errors.Memory, was, went)) = inl went.0
 follows (Turns turn next) files left s o t sparing told (inl out) = inl out.0

@@ -1,5 +1,5 @@
 -- What a plan comes to over objects that tell what they hold, where nothing fails, and what this says of a run.
-use Rattle.std.specs.Prelude.{◌≡◌, ◌⊎◌, ◌<◌, ◌≤◌, ◌+◌, ◌-◌, ◌^◌, nat_le, ℕ, List, [], ◌++◌, length, drop, Option, Some, None, Err, cond, IsTrue}
+use Rattle.std.specs.Prelude.{◌≡◌, ◌⊎◌, ◌<◌, ◌≤◌, ◌+◌, ◌-◌, ◌^◌, nat_le, ℕ, List, [], ◌∷◌, ◌++◌, length, drop, Option, Some, None, Err, cond, IsTrue}
 use Rattle.std.specs.Option.{option_map}
 use Rattle.br_outside.specs.Files.{Files, put}
 use Rattle.br_outside.specs.Outside.{Rose}
@@ -12,10 +12,16 @@ use Rattle.binrec.specs.declared.acts.stop.Limit.TheVariants as limits
 use Rattle.binrec.specs.declared.acts.stop.Object.{Object}
 use Rattle.binrec.specs.declared.acts.stop.Object.TheVariants as objects
 
--- the end of the work, the files then, the input left, and what was printed and reported until then
+-- what is stored, and under which name
+pub record Store : Type 0 where
+  pub name : List ℕ
+  pub bytes : List ℕ
+
+-- the end of the work, the files then, the input left, and what was stored, printed and reported until then
 pub record Ending : Type 0 where
   pub end : End
   pub files : Files
+  pub stored : List Store
   pub left : List ℕ
   -- how many more bytes of the input may be taken, at most
   pub spare : ℕ
@@ -23,11 +29,14 @@ pub record Ending : Type 0 where
   pub reported : List ℕ
 
 abbrev pub ends_with : End → Files → List ℕ → Ending
-ends_with end files left = record { end = end; files = files; left = left; spare = 0; printed = []; reported = [] }
+ends_with end files left = record { end = end; files = files; stored = []; left = left; spare = 0; printed = []; reported = [] }
 
 abbrev pub after_fetch : ℕ → (List ℕ → Ending) → Files → List ℕ → Option (List ℕ) → Ending
 after_fetch limit next files left None = ends_with (Err (Outside objects.Shelf)) files left
 after_fetch limit next files left (Some bytes) = cond (nat_le (length bytes) limit) (next bytes) (ends_with (Err (Because (Limited (limits.File limit)))) files left)
+
+abbrev pub stored_before : List ℕ → List ℕ → Ending → Ending
+stored_before name bytes e = record e { stored = record { name = name; bytes = bytes } ∷ e.stored }
 
 abbrev pub printed_before : List ℕ → Ending → Ending
 printed_before text e = record e { printed = text ++ e.printed }
@@ -39,7 +48,7 @@ turned_before d e = record e { spare = d.spare + e.spare; printed = d.printed ++
 unfoldable pub expected : Plan → Files → List ℕ → Ending
 expected (Ends end) files left = ends_with (planned_end end) files left
 expected (Fetches name limit next) files left = after_fetch limit (λ bytes. expected (next bytes) files left) files left (files name)
-expected (Stores name bytes next) files left = expected next (put name (Some bytes) files) left
+expected (Stores name bytes next) files left = stored_before name bytes (expected next (put name (Some bytes) files) left)
 expected (Prints text next) files left = printed_before text (expected next files left)
 expected (Turns turn next) files left = turned_before (turn left) (expected (next left) files (turn left).left)
 
@@ -59,13 +68,17 @@ NoInput (Stores name bytes next) = NoInput next
 NoInput (Prints text next) = NoInput next
 NoInput (Turns turn next) = ⊥
 
+-- each turn of the plan is so, by what it does, what the input has left before it, and the plan behind it
+unfoldable pub AllTurns : (Turned → List ℕ → Plan → Type 0) → Plan → Type 0
+AllTurns P (Ends end) = Unit {0}
+AllTurns P (Fetches name limit next) = (bytes : List ℕ) → AllTurns P (next bytes)
+AllTurns P (Stores name bytes next) = AllTurns P next
+AllTurns P (Prints text next) = AllTurns P next
+AllTurns P (Turns turn next) = (left : List ℕ) → AllTurns P (next left) × P (turn left) left (next left)
+
 -- a turn after which more of the input may be taken than it uses is the last one that reads
-unfoldable pub IsSparing : Plan → Type 0
-IsSparing (Ends end) = Unit {0}
-IsSparing (Fetches name limit next) = (bytes : List ℕ) → IsSparing (next bytes)
-IsSparing (Stores name bytes next) = IsSparing next
-IsSparing (Prints text next) = IsSparing next
-IsSparing (Turns turn next) = (left : List ℕ) → IsSparing (next left) × (((turn left).spare ≡ 0) ⊎ NoInput (next left))
+abbrev pub IsSparing : Plan → Type 0
+IsSparing = AllTurns (λ turned left rest. (turned.spare ≡ 0) ⊎ NoInput rest)
 
 -- The objects that the plan asks tell these contents.
 pub record IsTold (plan : Plan) (files : Files) (left : List ℕ) (s : World) : Type 0 where
