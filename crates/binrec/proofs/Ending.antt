@@ -2,12 +2,13 @@
 use Rattle.std.proofs.Common.{◌≡◌, ℕ, zero, suc, ◌+◌, List, [], ◌++◌, Ok, refl, sym, ◌∙◌, ap, append_assoc, arith}
 use Rattle.br_word.specs.Words.{bit}
 use Rattle.br_word.specs.State.{State, Stop, Running, Exited, Faulted}
-use Rattle.ia_inst.specs.Step.{step, unless_stopped, settled, step_way}
+use Rattle.ia_inst.specs.Step.{step}
 use Rattle.br_outside.specs.Files.{Files}
 use Rattle.guest_sys.specs.Calls.{spare}
 use Rattle.guest_sys.specs.Machine.{fed, bare}
 use Rattle.guest_run.specs.Run.{run}
 use Rattle.guest_run.specs.Guest.{GuestView, while_running, steps_taken, undefined_taken, reads_undefined, ahead, asks_next}
+use Rattle.guest_run.proofs.Composed.{running_some, run_none, steps_none, undefined_none, steps_first, undefined_first}
 use Rattle.guest_run.proofs.Shown.{shown, run_shown, steps_shown, undefined_shown, ahead_shown, shown_bare}
 use Rattle.binrec.specs.Plans.Told.{Ending, ends_with, turned_before, expected}
 use Rattle.binrec.specs.Guests.{guest_plan, next_guest, next_turn, finished}
@@ -74,54 +75,24 @@ none_spare (Faulted f) k = refl
 pub no_step : (rest : Rest) (g : GuestView) (left : List ℕ) → IsBare g → rest g.state.stop left g.steps g.undefined ≡ ran_before rest 0 g left
 no_step rest g left b = still rest 0 g left b (record { state = refl; steps = refl; undefined = refl; more = none_spare g.state.stop (asks_next (fed left g.state)) })
 
-while_none : {A : Type 0} (x : Stop) (go stay : A) → (x ≡ Running → ⊥) → while_running x go stay ≡ stay
-while_none Running go stay h = absurd (h refl)
-while_none (Exited n) go stay h = refl
-while_none (Faulted f) go stay h = refl
+none_more : (x : Stop) (k : ℕ) → (x ≡ Running → ⊥) → while_running x k 0 ≡ 0
+none_more Running k not = absurd (not refl)
+none_more (Exited n) k not = refl
+none_more (Faulted f) k not = refl
 
-unless_none : (x : Stop) (s t : State) → (x ≡ Running → ⊥) → unless_stopped x s t ≡ s
-unless_none Running s t h = absurd (h refl)
-unless_none (Exited n) s t h = refl
-unless_none (Faulted f) s t h = refl
-
-step_none : (s : State) → (s.stop ≡ Running → ⊥) → step s 0 ≡ s
-unfolding step
-step_none s h = unless_none s.stop s (settled (step_way s 0) s) h
-
-run_none : (n : ℕ) (s : State) → (s.stop ≡ Running → ⊥) → run n s [] ≡ s
-run_none zero s h = refl
-run_none (suc n) s h = ap (λ t. run n t []) (step_none s h) ∙ run_none n s h
-
-pub stopped_steps : (rest : Rest) (n : ℕ) (g : GuestView) (left : List ℕ) → IsBare g → (g.state.stop ≡ Running → ⊥) → rest g.state.stop left g.steps g.undefined ≡ ran_before rest (suc n) g left
-stopped_steps rest n g left b not =
+pub no_steps : (rest : Rest) (n : ℕ) (g : GuestView) (left : List ℕ) → IsBare g → (g.state.stop ≡ Running → ⊥) → rest g.state.stop left g.steps g.undefined ≡ ran_before rest n g left
+no_steps rest n g left b not =
     let s = fed left g.state in
-    still rest (suc n) g left b (record {
-      state = run_none (suc n) s not;
-      steps = while_none g.state.stop (1 + steps_taken n (step s 0)) 0 not;
-      undefined = while_none g.state.stop (bit (reads_undefined s) + undefined_taken n (step s 0)) 0 not;
-      more = while_none g.state.stop (ahead (run (suc n) s [])) 0 not;
-    })
+    still rest n g left b (record { state = run_none n s not; steps = steps_none n s not; undefined = undefined_none n s not; more = none_more g.state.stop (ahead (run n s [])) not })
 
 -- ---- a guest that runs
 
-spares_on : (t : State) (u : State) (n : ℕ) → u ≡ run n t [] → ahead t + while_running t.stop (ahead u) 0 ≡ ahead u
-spares_on t u n is = by_stop t.stop refl
-  where
-    by_stop : (x : Stop) → t.stop ≡ x → ahead t + while_running t.stop (ahead u) 0 ≡ ahead u
-    by_stop Running at =
-        let none : ahead t ≡ 0 = ap (λ x. spare x (asks_next t)) at in
-        let some : while_running t.stop (ahead u) 0 ≡ ahead u = ap (λ x. while_running x (ahead u) 0) at in
-        omega (arith, none, some)
-    by_stop (Exited n') at =
-        let not : t.stop ≡ Running → ⊥ = λ r. (let z : Exited n' ≡ Running = sym at ∙ r in cc) in
-        let none : while_running t.stop (ahead u) 0 ≡ 0 = while_none t.stop (ahead u) 0 not in
-        let same : ahead u ≡ ahead t = ap ahead (is ∙ run_none n t not) in
-        omega (arith, none, same)
-    by_stop (Faulted f) at =
-        let not : t.stop ≡ Running → ⊥ = λ r. (let z : Faulted f ≡ Running = sym at ∙ r in cc) in
-        let none : while_running t.stop (ahead u) 0 ≡ 0 = while_none t.stop (ahead u) 0 not in
-        let same : ahead u ≡ ahead t = ap ahead (is ∙ run_none n t not) in
-        omega (arith, none, same)
+spares_on : (t u : State) (n : ℕ) → u ≡ run n t [] → ahead t + while_running t.stop (ahead u) 0 ≡ ahead u
+spares_on t u n is = by_running _ t.stop
+    (λ running.
+      let none : ahead t ≡ 0 = ap (λ x. spare x (asks_next t)) running in
+      omega (arith, none, running_some t.stop (ahead u) 0 running))
+    (λ not. omega (arith, none_more t.stop (ahead u) not, ap ahead (is ∙ run_none n t not)))
 
 -- what two parts of a run have shown
 shown_twice : (t v u : State) (d k more : ℕ) (e : Ending) → d + k ≡ more → t.out ++ v.out ≡ u.out → t.err ++ v.err ≡ u.err
@@ -146,11 +117,11 @@ turn_ran rest n g left running =
     let is : u ≡ shown t.out t.err v = ap (λ t. run n t []) (shown_bare t) ∙ run_shown n t.out t.err s' in
     let steps : steps_taken n t ≡ steps_taken n s' = ap (λ t. steps_taken n t) (shown_bare t) ∙ steps_shown n t.out t.err s' in
     let undefined : undefined_taken n t ≡ undefined_taken n s' = ap (λ t. undefined_taken n t) (shown_bare t) ∙ undefined_shown n t.out t.err s' in
-    let first : steps_taken (suc n) s ≡ 1 + steps_taken n t = ap (λ x. while_running x (1 + steps_taken n t) 0) running in
-    let first' : undefined_taken (suc n) s ≡ bit (reads_undefined s) + undefined_taken n t = ap (λ x. while_running x (bit (reads_undefined s) + undefined_taken n t) 0) running in
+    let first : steps_taken (suc n) s ≡ 1 + steps_taken n t = steps_first n s running in
+    let first' : undefined_taken (suc n) s ≡ bit (reads_undefined s) + undefined_taken n t = undefined_first n s running in
     let ahead' : ahead v ≡ ahead u = sym (ap ahead is ∙ ahead_shown t.out t.err v) in
     let more : ahead t + while_running t.stop (ahead v) 0 ≡ while_running s.stop (ahead u) 0 =
-    ap (λ k. ahead t + while_running t.stop k 0) ahead' ∙ (spares_on t u n refl ∙ sym (ap (λ x. while_running x (ahead u) 0) running)) in
+    ap (λ k. ahead t + while_running t.stop k 0) ahead' ∙ (spares_on t u n refl ∙ sym (running_some s.stop (ahead u) 0 running)) in
     ap (λ e. turned_before (next_turn g left) (shown_before v (while_running t.stop (ahead v) 0) e))
     (rest_as rest v.stop u.stop v.input u.input _ _ _ _ (sym (ap (λ t. t.stop) is)) (sym (ap (λ t. t.input) is)) (omega (arith, steps, first)) (omega (arith, undefined, first')))
     ∙ shown_twice t v u (ahead t) (while_running t.stop (ahead v) 0) (while_running s.stop (ahead u) 0) _ more (sym (ap (λ t. t.out) is)) (sym (ap (λ t. t.err) is))
@@ -167,4 +138,4 @@ ends_as zero g files left b = ap (λ p. expected p files left) (none_left g) ∙
 ends_as (suc n) g files left b = by_running _ g.state.stop
     (λ running. ap (λ p. expected p files left) (runs n g running)
     ∙ (ap (turned_before (next_turn g left)) (ends_as n (next_guest g left) files (step (fed left g.state) 0).input (bare_next g left)) ∙ turn_ran (guest_rest files) n g left running))
-    (λ not. ap (λ p. expected p files left) (has_stopped (suc n) g not) ∙ stopped_steps (guest_rest files) n g left b not)
+    (λ not. ap (λ p. expected p files left) (has_stopped (suc n) g not) ∙ no_steps (guest_rest files) (suc n) g left b not)

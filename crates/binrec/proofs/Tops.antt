@@ -1,5 +1,5 @@
 -- What the top call owes follows from what happened.
-use Rattle.std.proofs.Common.{◌≡◌, ◌+◌, ℕ, List, [], Result, Ok, Err, refl, sym, ap, subst, inl, inr}
+use Rattle.std.proofs.Common.{◌≡◌, ℕ, ◌+◌, List, [], Result, Ok, Err, refl, sym, ap, subst, inl, inr}
 use Rattle.br_outside.specs.Outside.{StreamView}
 use Rattle.binrec.specs.Plans.World.{World, on_report}
 use Rattle.binrec.specs.Plans.Texts.{End}
@@ -8,7 +8,7 @@ use Rattle.binrec.specs.Plans.Happened.{TellsStop, Happened}
 use Rattle.binrec.specs.Plans.Told.{IsExact, IsComplete, HasCause}
 use Rattle.word_reader.specs.Words.{Asked, Builds, Traces, Runs, Merges}
 use Rattle.binrec.specs.Words.{asked_by, first_name}
-use Rattle.binrec.specs.Commands.{asked_plan, of_command, plan, run_plan}
+use Rattle.binrec.specs.Commands.{asked_plan, of_command, plan, run_plan, trace_plan}
 use Rattle.binrec.specs.Meaning.{MeansBuild, MeansRun, MeansMerge, MeansUsage}
 use Rattle.binrec.specs.TraceMeaning.{MeansTrace}
 use Rattle.binrec.specs.declared.acts.stop.Stop.{Stop}
@@ -32,6 +32,10 @@ asked_for words asked s o t is went = let P : Result Asked ℕ → Type 0 = λ r
 -- a run, by where its file stands in the words
 pub run_for : (words : List (List ℕ)) (steps : ℕ) (e : List ℕ) (args : List (List ℕ)) (word : ℕ) (s : World) (o : End) (t : World) → asked_by words ≡ Ok (Runs steps e args) → word ≡ first_name words → Went (run_plan steps e args word) s o t → Went (plan words) s o t
 run_for words steps e args word s o t is at went = let P : ℕ → Type 0 = λ w. Went (run_plan steps e args w) s o t in asked_for words (Runs steps e args) s o t is (subst P at went)
+
+-- a traced run, by where its names stand in the words
+pub trace_for : (words : List (List ℕ)) (steps : ℕ) (t e : List ℕ) (args : List (List ℕ)) (word : ℕ) (s : World) (o : End) (u : World) → asked_by words ≡ Ok (Traces steps t e args) → word ≡ first_name words → Went (trace_plan steps t e args (word + 1)) s o u → Went (plan words) s o u
+trace_for words steps t e args word s o u is at went = let P : ℕ → Type 0 = λ w. Went (trace_plan steps t e args (w + 1)) s o u in asked_for words (Traces steps t e args) s o u is (subst P at went)
 
 -- the line of a stop was given, or memory was wanting for it
 pub reported_stop : (p : Plan) (s m : World) (stop : Stop) (result : ℕ) (v : StreamView) → Went p s (Err stop) m → TellsStop stop m.report result v → Happened p s result (on_report m v)

@@ -1,6 +1,5 @@
 -- What the turns of a traced guest come to is its run, up to the step in which its edges are too many.
 use Rattle.std.proofs.Common.{◌≡◌, ◌<◌, ◌≤◌, nat_le, ℕ, zero, suc, Bool, true, false, List, [], ◌++◌, length, Err, cond, refl, sym, ◌∙◌, ap, arith}
-use Rattle.std.proofs.lemmas.Bool.{le-leb, lt-leb, cond-true, cond-false}
 use Rattle.br_word.specs.State.{State, Stop, Running, Exited, Faulted}
 use Rattle.ia_inst.specs.System.{Way, On, Bad}
 use Rattle.ia_inst.specs.Step.{Found, NoCode, NoInst, There, found, step_way, step}
@@ -20,7 +19,8 @@ use Rattle.binrec.specs.Tours.{unless_full, tour_plan}
 use Rattle.binrec.specs.declared.acts.stop.Stop.TheVariants.{Because}
 use Rattle.binrec.specs.declared.acts.stop.Cause.TheVariants.{Limited}
 use Rattle.binrec.specs.declared.acts.stop.Limit.TheVariants as limits
-use Rattle.binrec.proofs.Ending.{Rest, ran_before, IsBare, bare_next, by_running, no_step, stopped_steps, turn_ran}
+use Rattle.binrec.proofs.Touring.{runs, none_left, has_stopped, has_room, is_full}
+use Rattle.binrec.proofs.Ending.{Rest, ran_before, IsBare, bare_next, by_running, no_step, no_steps, turn_ran}
 
 -- ---- the edges of a run
 
@@ -65,28 +65,9 @@ few_next k g left es few j less = let h = few (suc j) (omega (arith, less)) in o
 
 -- ---- the plan
 
-runs_on : (last : Traced → Plan) (n : ℕ) (g : GuestView) (es : List Edge) → g.state.stop ≡ Running
-    → tour_plan last (suc n) g es ≡ Turns (next_turn g) (λ left. unless_full (tour_plan last n (next_guest g left)) (next_edges g left es))
-unfolding tour_plan
-runs_on last n g es is = ap (λ x. while_running x (Turns (next_turn g) (λ left. unless_full (tour_plan last n (next_guest g left)) (next_edges g left es))) (last (traced g es))) is
-
-stands_still : (x : Stop) (a b : Plan) → (x ≡ Running → ⊥) → while_running x a b ≡ b
-stands_still Running a b not = absurd (not refl)
-stands_still (Exited n) a b not = refl
-stands_still (Faulted f) a b not = refl
-
-stands : (last : Traced → Plan) (n : ℕ) (g : GuestView) (es : List Edge) → (g.state.stop ≡ Running → ⊥) → tour_plan last n g es ≡ last (traced g es)
-unfolding tour_plan
-stands last zero g es not = refl
-stands last (suc n) g es not = stands_still g.state.stop _ _ not
-
-none_left : (last : Traced → Plan) (g : GuestView) (es : List Edge) → tour_plan last 0 g es ≡ last (traced g es)
-unfolding tour_plan
-none_left last g es = refl
-
 -- the edges are not too many
 fits : (next : List Edge → Plan) (es : List Edge) (files : Files) (left : List ℕ) → length es ≤ edge_limit → expected (unless_full next es) files left ≡ expected (next es) files left
-fits next es files left few = ap (λ p. expected p files left) (cond-true (nat_le (length es) edge_limit) (next es) (Ends (Err (Limited limits.Union))) (le-leb (length es) edge_limit few))
+fits next es files left few = ap (λ p. expected p files left) (has_room next es few)
 
 -- a step of a guest that runs, and then the rest
 turns : (last : Traced → Plan) (n : ℕ) (g : GuestView) (es : List Edge) (files : Files) (left : List ℕ) (rest : Rest) (k : ℕ) → length es ≤ edge_limit → g.state.stop ≡ Running
@@ -95,7 +76,7 @@ turns : (last : Traced → Plan) (n : ℕ) (g : GuestView) (es : List Edge) (fil
 unfolding expected
 turns last n g es files left rest k few running ends =
     fits (tour_plan last (suc n) g) es files left few
-    ∙ (ap (λ p. expected p files left) (runs_on last n g es running)
+    ∙ (ap (λ p. expected p files left) (runs last n g es running)
     ∙ (ap (turned_before (next_turn g left)) ends ∙ turn_ran rest k g left running))
 
 -- ---- all steps are taken
@@ -113,9 +94,9 @@ tour_ends last (suc n) g es files left b few = by_running _ g.state.stop
     (tour_ends last n (next_guest g left) (next_edges g left es) files (step (fed left g.state) 0).input (bare_next g left) (few_next (suc n) g left es few)
     ∙ ap (λ es. ran_before (last_rest last files es) n (next_guest g left) (step (fed left g.state) 0).input) (edges_step n g left es)))
     (λ not. fits (tour_plan last (suc n) g) es files left (few 0 (omega arith))
-    ∙ (ap (λ p. expected p files left) (stands last (suc n) g es not)
+    ∙ (ap (λ p. expected p files left) (has_stopped last (suc n) g es not)
     ∙ (ap (λ es. last_rest last files es g.state.stop left g.steps g.undefined) (sym (after_none (suc n) (fed left g.state) es not))
-    ∙ stopped_steps (last_rest last files (edges_after (suc n) (fed left g.state) es)) n g left b not)))
+    ∙ no_steps (last_rest last files (edges_after (suc n) (fed left g.state) es)) (suc n) g left b not)))
 
 -- ---- the edges are too many
 
@@ -126,7 +107,7 @@ pub tour_fills : (last : Traced → Plan) (k n : ℕ) (g : GuestView) (es : List
     → edge_limit < length (edges_after k (fed left g.state) es) → expected (unless_full (tour_plan last n g) es) files left ≡ ran_before (full_rest files) k g left
 unfolding expected
 tour_fills last zero n g es files left b most few full =
-    ap (λ p. expected p files left) (cond-false (nat_le (length es) edge_limit) (tour_plan last n g es) (Ends (Err (Limited limits.Union))) (lt-leb (length es) edge_limit full)) ∙ no_step (full_rest files) g left b
+    ap (λ p. expected p files left) (is_full (tour_plan last n g) es full) ∙ no_step (full_rest files) g left b
 tour_fills last (suc k) zero g es files left b most few full = absurd (omega (arith, most))
 tour_fills last (suc k) (suc n) g es files left b most few full = by_running _ g.state.stop
     (λ running. turns last n g es files left (full_rest files) k (few 0 (omega arith)) running

@@ -1,7 +1,7 @@
 -- What `trace` answers means what it is to mean.
 use Rattle.std.proofs.Common.{◌≡◌, ◌⊎◌, ◌<◌, ◌≤◌, ◌+◌, ℕ, suc, nat_le, List, [], ◌∷◌, ◌++◌, length, Option, Some, None, Result, Ok, Err, refl, sym, ◌∙◌, ap, subst, inl, inr, arith}
 use Rattle.std.specs.Option.{option_map}
-use Rattle.br_word.specs.State.{State, Stop, Running, Exited, Faulted}
+use Rattle.br_word.specs.State.{Stop}
 use Rattle.br_outside.specs.Files.{Files, put}
 use Rattle.elf_read.specs.Elf.{elf, Refused}
 use Rattle.elf_read.specs.declared.exe.Exe.{Exe}
@@ -32,6 +32,7 @@ use Rattle.binrec.specs.declared.acts.stop.Object.{Object}
 use Rattle.binrec.specs.declared.acts.stop.Object.TheVariants as objects
 use Rattle.binrec.specs.declared.acts.stop.Limit.TheVariants as limits
 use Rattle.binrec.specs.declared.commands.original.Subject.{Subject}
+use Rattle.binrec.proofs.Turning.{same_stop}
 use Rattle.binrec.proofs.Ending.{ran_before}
 use Rattle.binrec.proofs.TourEnding.{last_rest, full_rest, tour_ends, tour_fills}
 use Rattle.binrec.proofs.RunMeant.{not_begun, has_shown}
@@ -40,11 +41,6 @@ use Rattle.binrec.proofs.MergeMeant.{chosen}
 -- the run of the original, and what is done with its trace
 abbrev toured_part : List ℕ → ℕ → List (List ℕ) → Subject → Plan
 toured_part target n args subject = tour_plan (traced_part target subject.digest) n (beginning subject.exe args) (first_edge subject.exe ∷ [])
-
-same_stop : (s : Stop) → stop_of (answer_of s) ≡ s
-same_stop Running = refl
-same_stop (Exited n) = refl
-same_stop (Faulted f) = refl
 
 line_as : (a b : Stop) (m m' u u' k : ℕ) → a ≡ b → m ≡ m' → u ≡ u' → traced_line a m u k ≡ traced_line b m' u' k
 line_as a b m m' u u' k e f g = ap (λ a. traced_line a m u k) e ∙ (ap (λ m. traced_line b m u k) f ∙ ap (λ u. traced_line b m' u k) g)
