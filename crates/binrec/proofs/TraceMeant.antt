@@ -1,5 +1,5 @@
 -- What `trace` answers means what it is to mean.
-use Rattle.std.proofs.Common.{◌≡◌, ◌⊎◌, ◌<◌, ◌≤◌, ◌+◌, ℕ, suc, nat_le, List, [], ◌∷◌, ◌++◌, length, Option, Some, None, Result, Ok, Err, refl, sym, ◌∙◌, ap, subst, inl, inr, arith}
+use Rattle.std.proofs.Common.{◌≡◌, ◌⊎◌, ◌+◌, ℕ, List, [], ◌∷◌, ◌++◌, length, Option, Some, None, Result, Ok, Err, refl, sym, ◌∙◌, ap, subst, inl, inr, arith}
 use Rattle.std.specs.Option.{option_map}
 use Rattle.br_word.specs.State.{Stop}
 use Rattle.br_outside.specs.Files.{Files, put}
@@ -12,7 +12,7 @@ use Rattle.guest_run.specs.Run.{run}
 use Rattle.guest_run.specs.Guest.{beginning, answer_of, stop_of, steps_taken, undefined_taken}
 use Rattle.trace_file.specs.Trace.{trace_bytes}
 use Rattle.tracer.specs.declared.answers.Traced.{Traced}
-use Rattle.tracer.specs.Tour.{first_edge, edge_limit}
+use Rattle.tracer.specs.Tour.{first_edge}
 use Rattle.tracer.specs.Told.{edges_in}
 use Rattle.word_reader.specs.Words.{Asked, Traces}
 use Rattle.binrec.specs.Words.{asked_by, first_name}
@@ -25,7 +25,7 @@ use Rattle.binrec.specs.Guests.{finish_of}
 use Rattle.binrec.specs.Tours.{traced_line, traced_as, tour_plan}
 use Rattle.binrec.specs.Traces.{of_word, with_digest}
 use Rattle.binrec.specs.Commands.{traced_part, trace_plan, of_command, plan}
-use Rattle.binrec.specs.TraceMeaning.{HasShown, line_after, HasTraced, HasFilled, FewBefore, TracesExe, TracesRead, TracesContent, MeansTrace}
+use Rattle.binrec.specs.TraceMeaning.{line_after, HasTraced, HasFilled, TracesExe, TracesRead, TracesContent, MeansTrace}
 use Rattle.binrec.specs.declared.acts.stop.Stop.TheVariants.{Because, Outside}
 use Rattle.binrec.specs.declared.acts.stop.Cause.TheVariants.{RefusedWord, Limited}
 use Rattle.binrec.specs.declared.acts.stop.Object.{Object}
