@@ -1,11 +1,13 @@
 -- How the functions of the commands end.
-use Rattle.std.proofs.Common.{◌≡◌, ℕ, List, length, Result, Ok, Err, IsErrAnd, sym, ◌∙◌, ap}
+use Rattle.std.proofs.Common.{◌≡◌, ℕ, List, length, Result, Ok, Err, IsErrAnd, sym, ◌∙◌, ap, subst}
 use Rattle.std.proofs.lemmas.Result.{err_from_is_err_and}
 use Rattle.build_core.specs.Image.{image}
 use Rattle.build_core.specs.declared.image.Built.{Built}
 use Rattle.elf_read.specs.declared.exe.Exe.{Exe}
+use Rattle.trace_file.specs.Edges.{Edge}
+use Rattle.trace_file.specs.Trace.{trace_bytes}
 use Rattle.binrec.specs.Plans.World.{World}
-use Rattle.binrec.specs.Plans.Texts.{End}
+use Rattle.binrec.specs.Plans.Texts.{Finished, End}
 use Rattle.binrec.specs.Plans.Plan.{Plan, Ends, Stores, Went}
 use Rattle.binrec.specs.Commands.{image_part, built_line, done_with, end_of}
 use Rattle.binrec.specs.declared.acts.stop.Outcome.{Outcome}
@@ -39,3 +41,11 @@ pub stored_image : (name line lent : List ℕ) (exe : Exe) (built : Built) (s t 
 stored_image name line lent exe built s t o is same told went =
     stored_as name lent (image exe) line (built_line 0 5 (length (image exe))) s t o (same ∙ sym is.bytes)
     (sym (same_line 0 built.blocks 5 built.code (length (image exe)) (length built.bytes) is.blocks is.code (ap length is.bytes) ∙ ok_same _ line told)) went
+
+-- a trace is stored, whose file was made
+pub stored_trace : (target digest file lent : List ℕ) (es : List Edge) (done : Finished) (s t : World) (o : End)
+    → (let r : Result (List ℕ) Cause = Ok (trace_bytes es digest) in r) ≡ Ok file → lent ≡ file
+    → Went (Stores target lent (Ends (Ok done))) s o t → Went (Stores target (trace_bytes es digest) (Ends (Ok done))) s o t
+stored_trace target digest file lent es done s t o written same went =
+    let P : List ℕ → Type 0 = λ bytes. Went (Stores target bytes (Ends (Ok done))) s o t in
+    subst P (same ∙ sym (ok_same _ file written)) went

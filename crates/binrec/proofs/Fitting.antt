@@ -189,7 +189,7 @@ fit_command (word ∷ words) =
 read_as : (r : Result Asked ℕ) (words : List (List ℕ)) (asked : Asked) → built_command r words ≡ Ok asked → r ≡ Ok asked
 read_as (Ok (Builds n e [])) words asked h = h
 read_as (Ok (Builds n e (t ∷ ts))) words asked h = absurd (let z : (let x : Result Asked ℕ = Err 3 in x) ≡ Ok asked = h in cc)
-read_as (Ok (Traces k t e ts)) words asked h = absurd (let z : (let x : Result Asked ℕ = Err 0 in x) ≡ Ok asked = h in cc)
+read_as (Ok (Traces k t e ts)) words asked h = h
 read_as (Ok (Runs k e ts)) words asked h = h
 read_as (Ok (Merges t e ts)) words asked h = h
 read_as (Ok (Shows e ts)) words asked h = absurd (let z : (let x : Result Asked ℕ = Err 0 in x) ≡ Ok asked = h in cc)

@@ -5,13 +5,16 @@ pub mod Turning
 pub mod Taking
 pub mod Sparing
 pub mod Ending
+pub mod TourEnding
 pub mod RunMeant
+pub mod TraceMeant
 pub mod Untaken
 pub mod MergeMeant
 pub mod Runnings
 pub mod Ends
 pub mod Checking
 pub mod Merging
+pub mod Touring
 pub mod Courses
 pub mod Meanings
 pub mod Tops

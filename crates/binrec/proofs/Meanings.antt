@@ -1,5 +1,5 @@
 -- What the answers of the commands mean, by the courses that their work can take.
-use Rattle.std.proofs.Common.{◌≡◌, ◌⊎◌, ◌<◌, ◌≤◌, ℕ, List, [], ◌∷◌, ◌++◌, length, Option, Some, None, IfSome, Result, Ok, Err, nat_le, Bool, true, false, IsTrue, refl, sym, ◌∙◌, ap, subst, inl, inr, arith}
+use Rattle.std.proofs.Common.{◌≡◌, ◌⊎◌, ◌<◌, ◌≤◌, ◌+◌, ℕ, List, [], ◌∷◌, ◌++◌, length, Option, Some, None, IfSome, Result, Ok, Err, nat_le, Bool, true, false, IsTrue, refl, sym, ◌∙◌, ap, subst, inl, inr, arith}
 use Rattle.std.specs.Option.{option_map}
 use Rattle.std.proofs.lemmas.Bool.{le-leb, lt-leb, cond-true, cond-false}
 use Rattle.br_outside.specs.Files.{Files, put}
@@ -24,7 +24,7 @@ use Rattle.binrec.specs.declared.acts.stop.Cause.TheVariants.{Usage, RefusedWord
 use Rattle.binrec.specs.declared.acts.stop.Object.TheVariants as objects
 use Rattle.binrec.specs.declared.acts.stop.Limit.TheVariants as limits
 use Rattle.binrec.proofs.Plans.Told.{told_to}
-use Rattle.binrec.proofs.Runnings.{run_end, merge_end, not_1}
+use Rattle.binrec.proofs.Runnings.{run_end, trace_end, merge_end, not_1}
 use Rattle.binrec.proofs.Courses.{Course, Wants, Misses, Passes, Refuses, Breaks, Keeps, Taken, Holds, course}
 
 -- the report line of an end
@@ -271,6 +271,7 @@ is_usage words at s result t (o, m, went, reported) asked =
 -- the commands that there are
 abbrev There : Asked → Type 0
 There (Builds n e []) = Unit {0}
+There (Traces steps t e args) = Unit {0}
 There (Runs steps e args) = Unit {0}
 There (Merges t e traces) = Unit {0}
 There _ = ⊥
@@ -299,6 +300,12 @@ run_no_usage words steps e args s result t (o, m, went, reported) asked one =
     let P : Result Asked ℕ → Type 0 = λ r. Went (of_command r (first_name words)) s o m in
     not_1 o m result t (run_end steps e args (first_name words) s o m (subst P asked went)) reported one
 
+-- nor is one of `trace`
+trace_no_usage : (words : List (List ℕ)) (steps : ℕ) (target original : List ℕ) (args : List (List ℕ)) (s : World) (result : ℕ) (t : World) → Happened (plan words) s result t → asked_by words ≡ Ok (Traces steps target original args) → result ≡ 1 → ⊥
+trace_no_usage words steps target original args s result t (o, m, went, reported) asked one =
+    let P : Result Asked ℕ → Type 0 = λ r. Went (of_command r (first_name words)) s o m in
+    not_1 o m result t (trace_end steps target original args (first_name words + 1) s o m (subst P asked went)) reported one
+
 -- nor is one of `merge`
 merge_no_usage : (words : List (List ℕ)) (target original : List ℕ) (names : List (List ℕ)) (s : World) (result : ℕ) (t : World) → Happened (plan words) s result t → asked_by words ≡ Ok (Merges target original names) → result ≡ 1 → ⊥
 merge_no_usage words target original names s result t (o, m, went, reported) asked one =
@@ -309,7 +316,7 @@ only_usage : (words : List (List ℕ)) (s : World) (result : ℕ) (t : World) �
 only_usage words s result t law h is (Ok (Builds name original [])) asked = absurd ((means_build words name original s result t law h asked).usage is)
 only_usage words s result t law h is (Ok (Runs steps e args)) asked = absurd (run_no_usage words steps e args s result t h asked is)
 only_usage words s result t law h is (Ok (Builds name original (word ∷ more))) asked = absurd (not_built (command words) words (Builds name original (word ∷ more)) asked)
-only_usage words s result t law h is (Ok (Traces k t' e ts)) asked = absurd (not_built (command words) words (Traces k t' e ts) asked)
+only_usage words s result t law h is (Ok (Traces steps t' e args)) asked = absurd (trace_no_usage words steps t' e args s result t h asked is)
 only_usage words s result t law h is (Ok (Merges t' e ts)) asked = absurd (merge_no_usage words t' e ts s result t h asked is)
 only_usage words s result t law h is (Ok (Shows e ts)) asked = absurd (not_built (command words) words (Shows e ts) asked)
 only_usage words s result t law h is (Ok (Sessions e)) asked = absurd (not_built (command words) words (Sessions e) asked)

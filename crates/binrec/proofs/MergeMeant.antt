@@ -47,7 +47,7 @@ abbrev Did : Plan → Files → World → ℕ → World → Type 0
 Did p files s result t = IsWhole files [] (expected p files []) s result t
 
 -- by a limit
-chosen : {X : Type 0} (P : X → Type 0) (n limit : ℕ) (a b : X) → P (cond (nat_le n limit) a b) → (n ≤ limit → P a) × (limit < n → P b)
+pub chosen : {X : Type 0} (P : X → Type 0) (n limit : ℕ) (a b : X) → P (cond (nat_le n limit) a b) → (n ≤ limit → P a) × (limit < n → P b)
 chosen P n limit a b h = (λ few. subst P (cond-true (nat_le n limit) a b (le-leb n limit few)) h, λ many. subst P (cond-false (nat_le n limit) a b (lt-leb n limit many)) h)
 
 says : (stop : Stop) (files : Files) (s : World) (result : ℕ) (t : World) → IsQuiet files s t → IsWhole files [] (ends_with (Err stop) files []) s result t → OnlySays (stop_status stop) (stop_text stop) s result t

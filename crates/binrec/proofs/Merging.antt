@@ -12,7 +12,8 @@ use Rattle.binrec.specs.Commands.{store_part, union_part, merged_line, done_with
 use Rattle.binrec.specs.declared.acts.stop.Stop.{Stop}
 use Rattle.binrec.specs.declared.acts.stop.Stop.TheVariants.{Memory}
 use Rattle.binrec.specs.declared.acts.stop.Cause.{Cause}
-use Rattle.binrec.proofs.Plans.Runs.{ok_same, passes, runs_out}
+use Rattle.binrec.proofs.Plans.Runs.{ok_same}
+use Rattle.binrec.proofs.Ends.{stored_trace}
 
 -- the name at an index, and those behind it
 pub next_name : {X : Type 0} (text : X → List ℕ) (names : List X) (i : ℕ) (name : X) (lent : List ℕ) → i < length names → name ≡ get_or names i name → lent ≡ text name → map text (drop i names) ≡ lent ∷ map text (drop (i + 1) names)
@@ -85,6 +86,5 @@ pub stored_union : (target digest file lent line : List ℕ) (es : List Edge) (c
     → (let r : Result (List ℕ) Cause = Ok (merged_line count) in r) ≡ Ok line
     → Went (Stores target lent (Ends (Ok (done_with line)))) s o t → Went (store_part target digest es) s o t
 stored_union target digest file lent line es count s t o written same counted told went =
-    let P : List ℕ → Type 0 = λ bytes. Went (Stores target bytes (Ends (Ok (done_with line)))) s o t in
     let Q : List ℕ → Type 0 = λ line. Went (Stores target (trace_bytes es digest) (Ends (Ok (done_with line)))) s o t in
-    subst Q (sym (ok_same _ line told) ∙ ap merged_line counted) (subst P (same ∙ sym (ok_same _ file written)) went)
+    subst Q (sym (ok_same _ line told) ∙ ap merged_line counted) (stored_trace target digest file lent es (done_with line) s t o written same went)

@@ -2,7 +2,8 @@
 use Rattle.std.proofs.Common.{◌≡◌, ◌⊎◌, ◌≤◌, ◌+◌, ℕ, nat_le, List, [], ◌++◌, length, drop, Option, Some, None, Result, Ok, Err, refl, sym, ◌∙◌, ap, subst, inl, inr, arith}
 use Rattle.std.specs.Option.{option_map}
 use Rattle.std.proofs.lemmas.Bool.{le-leb, lt-leb, cond-true, cond-false}
-use Rattle.br_word.specs.State.{Stop, Running, Exited, Faulted}
+use Rattle.std.proofs.lemmas.List.{append-nil}
+use Rattle.br_word.specs.State.{State, Stop, Running, Exited, Faulted}
 use Rattle.br_outside.specs.Files.{Files}
 use Rattle.elf_read.specs.Elf.{elf, Refused}
 use Rattle.elf_read.specs.declared.exe.Exe.{Exe}
@@ -13,13 +14,14 @@ use Rattle.guest_run.specs.Guest.{beginning, ahead, while_running, steps_taken, 
 use Rattle.word_reader.specs.Words.{Asked, Runs}
 use Rattle.binrec.specs.Words.{asked_by, first_name}
 use Rattle.binrec.specs.Plans.World.{World}
-use Rattle.binrec.specs.Plans.Texts.{end_text, end_status, stop_text, stop_status}
+use Rattle.binrec.specs.Plans.Texts.{End, end_text, stop_text, stop_status}
 use Rattle.binrec.specs.Plans.Parts.{checked}
-use Rattle.binrec.specs.Plans.Told.{Ending, ends_with, after_fetch, expected, LeavesBut, HasFailed, IsWhole, Decided, IsExact}
-use Rattle.binrec.specs.Guests.{guest_plan, finished}
+use Rattle.binrec.specs.Plans.Told.{Store, Ending, ends_with, after_fetch, expected, LeavesBut, HasFailed, IsWhole, Decided, IsExact}
+use Rattle.binrec.specs.Guests.{last_line, guest_plan, finished}
 use Rattle.binrec.specs.Traces.{of_word}
 use Rattle.binrec.specs.Commands.{run_plan, of_command, plan}
 use Rattle.binrec.specs.Meaning.{HasRun, OnlySays, RunsRead, RunsContent, MeansRun}
+use Rattle.binrec.specs.TraceMeaning.{HasShown}
 use Rattle.binrec.specs.declared.acts.stop.Stop.{Stop as Why}
 use Rattle.binrec.specs.declared.acts.stop.Stop.TheVariants.{Because, Outside}
 use Rattle.binrec.specs.declared.acts.stop.Cause.TheVariants.{RefusedWord, Limited}
@@ -27,7 +29,7 @@ use Rattle.binrec.specs.declared.acts.stop.Object.{Object}
 use Rattle.binrec.specs.declared.acts.stop.Object.TheVariants as objects
 use Rattle.binrec.specs.declared.acts.stop.Limit.TheVariants as limits
 use Rattle.binrec.proofs.Plans.Steps.{nothing}
-use Rattle.binrec.proofs.Ending.{EndsAs, ends_as}
+use Rattle.binrec.proofs.Ending.{shown_before, ran_before, guest_rest, ends_as}
 
 -- the work ended with a stop, and nothing else was done
 pub only_says : (stop : Why) (files : Files) (left : List ℕ) (s : World) (result : ℕ) (t : World) → s.shelf.files ≡ Some files → t.input.bytes ≡ s.input.bytes
@@ -41,7 +43,7 @@ only_says stop files left s result t told same w = record {
 }
 
 -- the work ended before the guest was beginning
-not_begun : (stop : Why) (files : Files) (left : List ℕ) (s : World) (result : ℕ) (t : World) → s.shelf.files ≡ Some files → s.input.bytes ≡ Some left
+pub not_begun : (stop : Why) (files : Files) (left : List ℕ) (s : World) (result : ℕ) (t : World) → s.shelf.files ≡ Some files → s.input.bytes ≡ Some left
     → IsWhole files left (ends_with (Err stop) files left) s result t → OnlySays (stop_status stop) (stop_text stop) s result t
 not_begun stop files left s result t told has w =
     let h : LeavesBut 0 left t.input.bytes = w.input has in
@@ -53,28 +55,39 @@ while_le Running k = omega arith
 while_le (Exited n) k = omega arith
 while_le (Faulted f) k = omega arith
 
--- the guest ran
-has_run : (n : ℕ) (exe : Exe) (args : List (List ℕ)) (files : Files) (left : List ℕ) (e : Ending) (s : World) (result : ℕ) (t : World) → s.shelf.files ≡ Some files → s.input.bytes ≡ Some left
-    → EndsAs n (beginning exe args) (opening exe (arguments args) left) files e → IsWhole files left e s result t → HasRun n (opening exe (arguments args) left) s result t
-has_run n exe args files left e s result t told has h w =
-    let start = opening exe (arguments args) left in
-    let u = run n start [] in
-    let zero_steps : 0 + steps_taken n start ≡ steps_taken n start = omega arith in
-    let zero_undefined : 0 + undefined_taken n start ≡ undefined_taken n start = omega arith in
-    let end : e.end ≡ Ok (finished u.stop (steps_taken n start) (undefined_taken n start)) = h.end ∙ (ap (λ m. Ok (finished u.stop m (0 + undefined_taken n start))) zero_steps ∙ ap (λ m. Ok (finished u.stop (steps_taken n start) m)) zero_undefined) in
+-- the steps up to a state have shown what they did, and then a line was reported
+pub has_shown : (x : Stop) (u : State) (stored : List Store) (end : End) (files files' : Files) (left : List ℕ) (s : World) (result : ℕ) (t : World) → s.input.bytes ≡ Some left
+    → IsWhole files left (shown_before u (while_running x (ahead u) 0) (record (ends_with end files' u.input) { stored = stored })) s result t → HasShown u (end_text end) s t
+has_shown x u stored end files files' left s result t has w =
     let i = w.input has in
     record {
-      status = w.status ∙ ap end_status end;
-      out = w.out ∙ ap (λ x. option_map (λ written. written ++ x) s.out.bytes) h.printed;
-      report = w.report ∙ ap (λ x. option_map (λ written. written ++ x) s.report.bytes) (ap (λ x. x ++ end_text e.end) h.reported ∙ ap (λ o. u.err ++ end_text o) end);
-      input = (i.0, (let k = while_le start.stop (ahead u) in omega (arith, i.1, h.spare_as, k)), i.2 ∙ ap (λ l. Some (drop i.0 l)) h.left);
-      shelf = w.shelf told ∙ (ap Some h.files_as ∙ sym told);
+      out = w.out ∙ ap (λ x. option_map (λ written. written ++ x) s.out.bytes) (append-nil u.out);
+      report = w.report ∙ ap (λ x. option_map (λ written. written ++ (x ++ end_text end)) s.report.bytes) (append-nil u.err);
+      input = (i.0, (let k = while_le x (ahead u) in omega (arith, i.1, k)), i.2);
+    }
+
+-- the guest ran
+has_run : (n : ℕ) (exe : Exe) (args : List (List ℕ)) (files : Files) (left : List ℕ) (s : World) (result : ℕ) (t : World) → s.shelf.files ≡ Some files → s.input.bytes ≡ Some left
+    → IsWhole files left (ran_before (guest_rest files) n (beginning exe args) left) s result t → HasRun n (opening exe (arguments args) left) s result t
+has_run n exe args files left s result t told has w =
+    let start = opening exe (arguments args) left in
+    let u = run n start [] in
+    let h = has_shown start.stop u [] (Ok (finished u.stop (0 + steps_taken n start) (0 + undefined_taken n start))) files files left s result t has w in
+    let steps : 0 + steps_taken n start ≡ steps_taken n start = omega arith in
+    let undefined : 0 + undefined_taken n start ≡ undefined_taken n start = omega arith in
+    record {
+      status = w.status;
+      out = h.out;
+      report = h.report ∙ ap (λ l. option_map (λ written. written ++ (u.err ++ l)) s.report.bytes) (ap (λ m. last_line u.stop m (0 + undefined_taken n start)) steps ∙ ap (λ m. last_line u.stop (steps_taken n start) m) undefined);
+      input = h.input;
+      shelf = w.shelf told ∙ sym told;
     }
 
 read : (n : ℕ) (args : List (List ℕ)) (word : ℕ) (files : Files) (left : List ℕ) (s : World) (result : ℕ) (t : World) → s.shelf.files ≡ Some files → s.input.bytes ≡ Some left
     → (r : Result Exe Refused) → IsWhole files left (expected (checked (of_word word r) (λ exe. guest_plan n (beginning exe args))) files left) s result t → RunsRead n args word left r s result t
 unfolding expected
-read n args word files left s result t told has (Ok exe) w = has_run n exe args files left _ s result t told has (ends_as n (beginning exe args) files left (record { out = refl; err = refl })) w
+read n args word files left s result t told has (Ok exe) w =
+    let P : Ending → Type 0 = λ e. IsWhole files left e s result t in has_run n exe args files left s result t told has (subst P (ends_as n (beginning exe args) files left (record { out = refl; err = refl })) w)
 read n args word files left s result t told has (Err refused) w = not_begun (Because (RefusedWord word refused.number refused.place)) files left s result t told has w
 
 fetched : (n : ℕ) (args : List (List ℕ)) (word : ℕ) (files : Files) (left : List ℕ) (s : World) (result : ℕ) (t : World) → s.shelf.files ≡ Some files → s.input.bytes ≡ Some left

@@ -1,4 +1,4 @@
--- The ends that `run` and `merge` can come to.
+-- The ends that `run`, `trace` and `merge` can come to.
 use Rattle.std.proofs.Common.{◌≡◌, ◌+◌, ℕ, zero, suc, nat_le, Bool, true, false, List, [], ◌∷◌, length, Result, Ok, Err, cond, sym, ◌∙◌, subst, inl, inr, arith}
 use Rattle.br_word.specs.State.{Stop, Running, Exited, Faulted}
 use Rattle.br_outside.specs.declared.errors.ShelfError.TheVariants as shelf_errors
@@ -10,15 +10,18 @@ use Rattle.elf_read.specs.declared.exe.Reach.TheVariants.{Original, Guest}
 use Rattle.trace_file.specs.Edges.{Edge, union_of}
 use Rattle.trace_file.specs.Trace.{trace, trace_bytes}
 use Rattle.trace_file.specs.Trace as trace_file
-use Rattle.guest_run.specs.Guest.{GuestView, beginning, while_running}
+use Rattle.guest_run.specs.Guest.{GuestView, beginning, while_running, stop_of}
+use Rattle.tracer.specs.declared.answers.Traced.{Traced}
+use Rattle.tracer.specs.Tour.{first_edge, traced, with_step, edge_limit}
 use Rattle.binrec.specs.Plans.World.{World, on_shelf}
-use Rattle.binrec.specs.Plans.Texts.{End, end_status, finish_status, cause_status}
-use Rattle.binrec.specs.Plans.Plan.{Plan, Ends, Fetches, Stores, Turns, Went, GoesOn, FailsInput, FailsOutput, FailsReport, WantsMemory}
+use Rattle.binrec.specs.Plans.Texts.{Finished, End, end_status, finish_status, cause_status}
+use Rattle.binrec.specs.Plans.Plan.{Plan, Ends, Fetches, Stores, Turned, Turns, Went, GoesOn, FailsInput, FailsOutput, FailsReport, WantsMemory}
 use Rattle.binrec.specs.Plans.Parts.{checked}
 use Rattle.binrec.specs.Plans.Happened.{Reported}
-use Rattle.binrec.specs.Guests.{guest_plan, next_guest, next_turn, stands, finish_of}
+use Rattle.binrec.specs.Guests.{guest_plan, next_guest, next_turn, stands, finish_of, finished}
+use Rattle.binrec.specs.Tours.{traced_as, unless_full, tour_plan}
 use Rattle.binrec.specs.Traces.{of_word, with_digest, edges_of_word, counted, traces_part, limited}
-use Rattle.binrec.specs.Commands.{run_plan, done_with, merged_line, store_part, union_part, merge_plan}
+use Rattle.binrec.specs.Commands.{run_plan, traced_part, trace_plan, done_with, merged_line, store_part, union_part, merge_plan}
 use Rattle.binrec.specs.declared.acts.stop.Cause.{Cause}
 use Rattle.binrec.specs.declared.acts.stop.Cause.TheVariants.{Limited}
 use Rattle.binrec.specs.declared.acts.stop.Limit.TheVariants as limits
@@ -35,32 +38,47 @@ finish_so Running h = omega (arith, h)
 finish_so (Exited n) h = omega (arith, h)
 finish_so (Faulted f) h = omega (arith, h)
 
-stands_end : (g : GuestView) (s : World) (o : End) (t : World) → Went (stands g) s o t → NoUsage o
-unfolding Went
-stands_end g s o t (inl out) = ends_so o _ out.0 (λ h. omega (arith, h))
-stands_end g s o t (inr is) = ends_so o _ is.0 (finish_so g.state.stop)
-
 abbrev EndsSo : Plan → Type 0
 EndsSo p = (s : World) (o : End) (t : World) → Went p s o t → NoUsage o
+
+end_end : (done : Finished) → NoUsage (Ok done) → EndsSo (Ends (Ok done))
+unfolding Went
+end_end done h s o t (inl out) = ends_so o _ out.0 (λ h. omega (arith, h))
+end_end done h s o t (inr is) = ends_so o _ is.0 h
+
+stands_end : (g : GuestView) → EndsSo (stands g)
+stands_end g = end_end (finished g.state.stop g.steps g.undefined) (finish_so g.state.stop)
 
 while_end : (x : Stop) (p q : Plan) → EndsSo p → EndsSo q → EndsSo (while_running x p q)
 while_end Running p q h k = h
 while_end (Exited n) p q h k = k
 while_end (Faulted f) p q h k = k
 
-turns_end : (n : ℕ) (g : GuestView) → ((h : GuestView) → EndsSo (guest_plan n h)) → EndsSo (Turns (next_turn g) (λ left. guest_plan n (next_guest g left)))
+turns_end : (turn : List ℕ → Turned) (next : List ℕ → Plan) → ((left : List ℕ) → EndsSo (next left)) → EndsSo (Turns turn next)
 unfolding Went
-turns_end n g rest s o t (inl out) = ends_so o _ out.0 (λ h. omega (arith, h))
-turns_end n g rest s o t (inr (left, told, GoesOn m turned went)) = rest (next_guest g left) m o t went
-turns_end n g rest s o t (inr (left, told, FailsInput h)) = ends_so o _ h.ends (λ h. omega (arith, h))
-turns_end n g rest s o t (inr (left, told, FailsOutput h)) = ends_so o _ h.ends (λ h. omega (arith, h))
-turns_end n g rest s o t (inr (left, told, FailsReport h)) = ends_so o _ h.ends (λ h. omega (arith, h))
-turns_end n g rest s o t (inr (left, told, WantsMemory h)) = ends_so o _ h.ends (λ h. omega (arith, h))
+turns_end turn next rest s o t (inl out) = ends_so o _ out.0 (λ h. omega (arith, h))
+turns_end turn next rest s o t (inr (left, told, GoesOn m turned went)) = rest left m o t went
+turns_end turn next rest s o t (inr (left, told, FailsInput h)) = ends_so o _ h.ends (λ h. omega (arith, h))
+turns_end turn next rest s o t (inr (left, told, FailsOutput h)) = ends_so o _ h.ends (λ h. omega (arith, h))
+turns_end turn next rest s o t (inr (left, told, FailsReport h)) = ends_so o _ h.ends (λ h. omega (arith, h))
+turns_end turn next rest s o t (inr (left, told, WantsMemory h)) = ends_so o _ h.ends (λ h. omega (arith, h))
 
 guest_end : (n : ℕ) (g : GuestView) → EndsSo (guest_plan n g)
 unfolding guest_plan
 guest_end zero g = stands_end g
-guest_end (suc n) g = while_end g.state.stop (Turns (next_turn g) (λ left. guest_plan n (next_guest g left))) (stands g) (turns_end n g (λ h. guest_end n h)) (stands_end g)
+guest_end (suc n) g = while_end g.state.stop (Turns (next_turn g) (λ left. guest_plan n (next_guest g left))) (stands g) (turns_end (next_turn g) _ (λ left. guest_end n (next_guest g left))) (stands_end g)
+
+full_end : (b : Bool) (p : Plan) → EndsSo p → EndsSo (cond b p (Ends (Err (Limited limits.Union))))
+unfolding Went
+full_end true p rest s o t went = rest s o t went
+full_end false p rest s o t (inl out) = ends_so o _ out.0 (λ h. omega (arith, h))
+full_end false p rest s o t (inr is) = ends_so o _ is.0 (λ h. omega (arith, h))
+
+tour_end : (last : Traced → Plan) → ((t : Traced) → EndsSo (last t)) → (n : ℕ) (g : GuestView) (es : List Edge) → EndsSo (tour_plan last n g es)
+unfolding tour_plan
+tour_end last ends zero g es = ends (traced g es)
+tour_end last ends (suc n) g es = while_end g.state.stop (Turns (next_turn g) (λ left. unless_full (tour_plan last n (next_guest g left)) (with_step (next_guest g left).edge es))) (last (traced g es))
+    (turns_end (next_turn g) _ (λ left. full_end (nat_le (length (with_step (next_guest g left).edge es)) edge_limit) _ (tour_end last ends n (next_guest g left) (with_step (next_guest g left).edge es)))) (ends (traced g es))
 
 -- ---- parts of plans
 
@@ -80,9 +98,7 @@ store_end name bytes next rest s o t (inr (v, Err store_errors.Failed, was, is))
 store_end name bytes next rest s o t (inr (v, Err store_errors.Memory, was, is)) = ends_so o _ is.0 (λ h. omega (arith, h))
 
 done_end : (line : List ℕ) → EndsSo (Ends (Ok (done_with line)))
-unfolding Went
-done_end line s o t (inl out) = ends_so o _ out.0 (λ h. omega (arith, h))
-done_end line s o t (inr is) = ends_so o _ is.0 (λ h. omega (arith, h))
+done_end line = end_end (done_with line) (λ h. omega (arith, h))
 
 -- a check blames no word for being none
 abbrev Passes : {X : Type 0} → Result X Cause → Type 0
@@ -118,6 +134,13 @@ union_passes es = either_passes (nat_le (length es) 2000000) (Ok es) (Err (Limit
 
 pub run_end : (steps : ℕ) (name : List ℕ) (args : List (List ℕ)) (word : ℕ) → EndsSo (run_plan steps name args word)
 run_end steps name args word = fetch_end name 268435456 _ (λ bytes. checked_end (of_word word (elf Guest bytes)) _ (word_passes word (elf Guest bytes)) (λ exe. guest_end steps (beginning exe args)))
+
+traced_end : (target digest : List ℕ) (t : Traced) → EndsSo (traced_part target digest t)
+traced_end target digest t = store_end target (trace_bytes t.edges digest) _ (end_end (traced_as t) (finish_so (stop_of t.stop)))
+
+pub trace_end : (steps : ℕ) (target original : List ℕ) (args : List (List ℕ)) (word : ℕ) → EndsSo (trace_plan steps target original args word)
+trace_end steps target original args word = fetch_end original 16777216 _ (λ bytes. checked_end (with_digest bytes (of_word word (elf Original bytes))) _ (digest_passes bytes word (elf Original bytes))
+    (λ subject. tour_end (traced_part target subject.digest) (traced_end target subject.digest) steps (beginning subject.exe args) (first_edge subject.exe ∷ [])))
 
 traces_end : (digest : List ℕ) (names : List (List ℕ)) (word before : ℕ) (next : List (List Edge) → Plan) → ((traces : List (List Edge)) → EndsSo (next traces)) → EndsSo (traces_part digest names word before next)
 unfolding traces_part

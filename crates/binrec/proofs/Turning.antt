@@ -1,6 +1,6 @@
--- A guest's steps as turns of its plan.
+-- A guest's steps as turns of a plan.
 use Rattle.std.proofs.Common.{◌≡◌, ◌<◌, ◌≤◌, ◌+◌, ℕ, zero, suc, Bool, true, false, IsTrue, List, Result, Ok, Err, refl, sym, ◌∙◌, ap, subst, inr}
-use Rattle.br_outside.specs.Outside.{ShelfView, StreamView}
+use Rattle.br_outside.specs.Outside.{ShelfView}
 use Rattle.br_word.specs.State.{State, Stop, Running, Exited, Faulted}
 use Rattle.guest_sys.specs.Streams.{Streams, Tells}
 use Rattle.guest_sys.specs.Machine.{fed}
@@ -8,7 +8,7 @@ use Rattle.guest_sys.specs.Calls.{asks}
 use Rattle.guest_sys.specs.declared.answers.SysError.{SysError}
 use Rattle.guest_sys.specs.declared.answers.SysError.TheVariants as sys
 use Rattle.guest_run.specs.declared.stop.Stop as answer
-use Rattle.guest_run.specs.Guest.{GuestView, StepDone, StepFailed, NoStep, Steps, streams, stop_of, answer_of, while_running, asks_by, asks_next, traps}
+use Rattle.guest_run.specs.Guest.{GuestView, StepDone, StepFailed, NoStep, Steps, stop_of, answer_of, while_running, asks_by, asks_next, traps}
 use Rattle.binrec.specs.Plans.World.{World, world}
 use Rattle.binrec.specs.Plans.Texts.{End}
 use Rattle.binrec.specs.Plans.Plan.{Plan, Turns, Went, AfterTurn, GoesOn, FailsInput, FailsOutput, FailsReport, WantsMemory}
@@ -17,9 +17,13 @@ use Rattle.binrec.specs.declared.acts.stop.Finish.{Finish}
 use Rattle.binrec.specs.declared.acts.stop.Cause.{Cause}
 use Rattle.binrec.proofs.Plans.Runs.{ok_same}
 
+-- a world of a shelf and three streams
+abbrev pub with_streams : ShelfView → Streams → World
+with_streams v z = world v z.input z.out z.err
+
 -- ---- how a guest stands
 
-same_stop : (s : Stop) → stop_of (answer_of s) ≡ s
+pub same_stop : (s : Stop) → stop_of (answer_of s) ≡ s
 same_stop Running = refl
 same_stop (Exited n) = refl
 same_stop (Faulted f) = refl
@@ -34,6 +38,52 @@ stood g a f line n u w is steps undefined finish text =
     let P : Finish → Type 0 = λ f'. (let o : End = Ok (record { finish = f; line = line }) in o) ≡ Ok (record { finish = f'; line = last_line g.state.stop g.steps g.undefined }) in
     inr (subst P f' (ap (λ l. Ok (record { finish = f; line = l })) l'), refl)
 
+-- ---- a step as a turn, whatever comes after it
+
+turns : (next : List ℕ → Plan) (g : GuestView) (left : List ℕ) (s : World) (o : End) (u : World) → Tells left s.input
+    → AfterTurn (next_turn g left) left (Went (next left)) s o u → Went (Turns (next_turn g) next) s o u
+unfolding Went
+turns next g left s o u told after = inr (left, told, after)
+
+-- a step was taken
+pub turn_done : (next : List ℕ → Plan) (g h : GuestView) (v : ShelfView) (before after : Streams) (o : End) (u : World) (a : Steps (Ok true) 0 g h before after)
+    → Went (next a.left) (with_streams v after) o u → Went (Turns (next_turn g) next) (with_streams v before) o u
+turn_done next g h v before after o u a went =
+    let d : StepDone (fed a.left g.state) 0 g h before after = a.gives in
+    turns next g a.left (with_streams v before) o u a.told
+    (GoesOn (with_streams v after) (record { shelf = refl; more = d.more; few = d.few; input = d.streams.input; idle = d.idle; out = d.streams.out; report = d.streams.err }) went)
+
+-- what a call asks that is one
+asked_all : (b : Bool) (s : State) → IsTrue b → asks s ≡ asks_by b s
+asked_all true s is = refl
+asked_all false s is = let h : false ≡ true = is in cc
+
+-- a step failed
+pub turn_fails : (next : List ℕ → Plan) (g h : GuestView) (v : ShelfView) (before after : Streams) (error : SysError) → Steps (Err error) 0 g h before after
+    → Went (Turns (next_turn g) next) (with_streams v before) (Err (stop_of_error error)) (with_streams v after)
+turn_fails next g h v before after sys.Input a =
+    let d : StepFailed sys.Input (fed a.left g.state) 0 g h before after = a.gives in
+    let few : asks (fed a.left g.state) ≡ asks_next (fed a.left g.state) = asked_all (traps (fed a.left g.state)) (fed a.left g.state) d.trap in
+    let z = d.streams in
+    turns next g a.left (with_streams v before) _ _ a.told (FailsInput (record { ends = refl; taken = z.taken; few = (let P : ℕ → Type 0 = λ k. z.taken < k in subst P few z.few); rest = z.left; fails = z.fails; shelf = refl; out = z.out; report = z.err }))
+turn_fails next g h v before after sys.Out a =
+    let d : StepFailed sys.Out (fed a.left g.state) 0 g h before after = a.gives in
+    let z = d.streams in
+    turns next g a.left (with_streams v before) _ _ a.told (FailsOutput (record { ends = refl; written = z.0.written; given = z.0.given; some = z.0.some; fails = z.0.fails; shelf = refl; input = z.1; report = z.2 }))
+turn_fails next g h v before after sys.Report a =
+    let d : StepFailed sys.Report (fed a.left g.state) 0 g h before after = a.gives in
+    let z = d.streams in
+    turns next g a.left (with_streams v before) _ _ a.told (FailsReport (record { ends = refl; written = z.0.written; given = z.0.given; some = z.0.some; fails = z.0.fails; shelf = refl; input = z.1; out = z.2 }))
+turn_fails next g h v before after sys.Memory a =
+    let d : StepFailed sys.Memory (fed a.left g.state) 0 g h before after = a.gives in
+    let few : asks (fed a.left g.state) ≡ asks_next (fed a.left g.state) = asked_all (traps (fed a.left g.state)) (fed a.left g.state) d.trap in
+    let z = d.streams in
+    turns next g a.left (with_streams v before) _ _ a.told (WantsMemory (record { ends = refl; taken = z.taken; few = (let P : ℕ → Type 0 = λ k. z.taken ≤ k in subst P few z.few); input = z.input; shelf = refl; out = z.out.bytes; report = z.err.bytes; out_steady = z.out.steady; report_steady = z.err.steady }))
+
+-- a guest whose step failed was running
+pub ran_when_failed : (g h : GuestView) (before after : Streams) (error : SysError) → Steps (Err error) 0 g h before after → g.state.stop ≡ Running
+ran_when_failed g h before after error a = let d : StepFailed error (fed a.left g.state) 0 g h before after = a.gives in d.running
+
 -- ---- what a plan of steps comes to
 
 -- a guest that runs takes a turn
@@ -41,7 +91,7 @@ pub runs : (n : ℕ) (g : GuestView) → g.state.stop ≡ Running → guest_plan
 unfolding guest_plan
 runs n g is = ap (λ s. while_running s (Turns (next_turn g) (λ left. guest_plan n (next_guest g left))) (stands g)) is
 
-stopped_plan : (s : Stop) (a b : Plan) → (s ≡ Running → ⊥) → while_running s a b ≡ b
+pub stopped_plan : (s : Stop) (a b : Plan) → (s ≡ Running → ⊥) → while_running s a b ≡ b
 stopped_plan Running a b not = absurd (not refl)
 stopped_plan (Exited n) a b not = refl
 stopped_plan (Faulted f) a b not = refl
@@ -56,77 +106,47 @@ has_stopped zero g not = refl
 has_stopped (suc n) g not = stopped_plan g.state.stop _ _ not
 
 -- a run of another plan that is the same
-same_plan : (p q : Plan) (s : World) (o : End) (u : World) → p ≡ q → Went q s o u → Went p s o u
+pub same_plan : (p q : Plan) (s : World) (o : End) (u : World) → p ≡ q → Went q s o u → Went p s o u
 same_plan p q s o u is went = let P : Plan → Type 0 = λ p. Went p s o u in subst P (sym is) went
 
 -- a run of a guest that was made as this one
 pub guest_as : (n : ℕ) (g h : GuestView) (s : World) (o : End) (u : World) → (let r : Result GuestView Cause = Ok g in r) ≡ Ok h → Went (guest_plan n h) s o u → Went (guest_plan n g) s o u
 guest_as n g h s o u is went = let P : GuestView → Type 0 = λ g. Went (guest_plan n g) s o u in subst P (sym (ok_same g h is)) went
 
-turns : (n : ℕ) (g : GuestView) (left : List ℕ) (s : World) (o : End) (u : World) → g.state.stop ≡ Running → Tells left s.input
-    → AfterTurn (next_turn g left) left (Went (guest_plan n (next_guest g left))) s o u → Went (guest_plan (suc n) g) s o u
-unfolding Went
-turns n g left s o u running told after = same_plan (guest_plan (suc n) g) _ s o u (runs n g running) (inr (left, told, after))
-
 -- a step was taken
-step_on : (n : ℕ) (g h : GuestView) (v : ShelfView) (i o e i' o' e' : StreamView) (end : End) (u : World) → Steps (Ok true) 0 g h (streams i o e) (streams i' o' e')
-    → Went (guest_plan n h) (world v i' o' e') end u → Went (guest_plan (suc n) g) (world v i o e) end u
-step_on n g h v i o e i' o' e' end u a went =
-    let d : StepDone (fed a.left g.state) 0 g h (streams i o e) (streams i' o' e') = a.gives in
-    let P : GuestView → Type 0 = λ h. Went (guest_plan n h) (world v i' o' e') end u in
-    turns n g a.left (world v i o e) end u d.running a.told
-    (GoesOn (world v i' o' e') (record { shelf = refl; more = d.more; few = d.few; input = d.streams.input; idle = d.idle; out = d.streams.out; report = d.streams.err }) (subst P d.guest went))
+step_on : (n : ℕ) (g h : GuestView) (v : ShelfView) (before after : Streams) (o : End) (u : World) → Steps (Ok true) 0 g h before after
+    → Went (guest_plan n h) (with_streams v after) o u → Went (guest_plan (suc n) g) (with_streams v before) o u
+step_on n g h v before after o u a went =
+    let d : StepDone (fed a.left g.state) 0 g h before after = a.gives in
+    let P : GuestView → Type 0 = λ h. Went (guest_plan n h) (with_streams v after) o u in
+    same_plan (guest_plan (suc n) g) _ (with_streams v before) o u (runs n g d.running)
+    (turn_done (λ left. guest_plan n (next_guest g left)) g h v before after o u a (subst P d.guest went))
 
-pub steps_on : (k n : ℕ) (g h : GuestView) (v : ShelfView) (i o e i' o' e' : StreamView) (end : End) (u : World) (b : Bool) → Steps (Ok b) 0 g h (streams i o e) (streams i' o' e') → b ≡ true → k ≡ suc n
-    → Went (guest_plan n h) (world v i' o' e') end u → Went (guest_plan k g) (world v i o e) end u
-steps_on k n g h v i o e i' o' e' end u b a taken more went =
-    let P : Bool → Type 0 = λ b. Steps (Ok b) 0 g h (streams i o e) (streams i' o' e') in
-    let Q : ℕ → Type 0 = λ k. Went (guest_plan k g) (world v i o e) end u in
-    subst Q (sym more) (step_on n g h v i o e i' o' e' end u (subst P taken a) went)
+pub steps_on : (k n : ℕ) (g h : GuestView) (v : ShelfView) (before after : Streams) (o : End) (u : World) (b : Bool) → Steps (Ok b) 0 g h before after → b ≡ true → k ≡ suc n
+    → Went (guest_plan n h) (with_streams v after) o u → Went (guest_plan k g) (with_streams v before) o u
+steps_on k n g h v before after o u b a taken more went =
+    let P : Bool → Type 0 = λ b. Steps (Ok b) 0 g h before after in
+    let Q : ℕ → Type 0 = λ k. Went (guest_plan k g) (with_streams v before) o u in
+    subst Q (sym more) (step_on n g h v before after o u (subst P taken a) went)
 
 -- no step was taken
-pub stays : (n : ℕ) (g h : GuestView) (v : ShelfView) (i o e i' o' e' : StreamView) (end : End) (u : World) (b : Bool) → Steps (Ok b) 0 g h (streams i o e) (streams i' o' e') → b ≡ false
-    → Went (stands h) (world v i' o' e') end u → Went (guest_plan n g) (world v i o e) end u
-stays n g h v i o e i' o' e' end u b a none went =
-    let R : Bool → Type 0 = λ b. Steps (Ok b) 0 g h (streams i o e) (streams i' o' e') in
-    let a' : Steps (Ok false) 0 g h (streams i o e) (streams i' o' e') = subst R none a in
-    let d : NoStep (fed a'.left g.state) g h (streams i o e) (streams i' o' e') = a'.gives in
-    let P : GuestView → Type 0 = λ h. Went (stands h) (world v i' o' e') end u in
-    let Q : Streams → Type 0 = λ z. Went (stands g) (world v z.input z.out z.err) end u in
-    same_plan (guest_plan n g) (stands g) (world v i o e) end u (has_stopped n g d.stopped) (subst Q d.streams (subst P d.guest went))
-
--- what a call asks that is one
-asked_all : (b : Bool) (s : State) → IsTrue b → asks s ≡ asks_by b s
-asked_all true s is = refl
-asked_all false s is = let h : false ≡ true = is in cc
+pub stays : (n : ℕ) (g h : GuestView) (v : ShelfView) (before after : Streams) (o : End) (u : World) (b : Bool) → Steps (Ok b) 0 g h before after → b ≡ false
+    → Went (stands h) (with_streams v after) o u → Went (guest_plan n g) (with_streams v before) o u
+stays n g h v before after o u b a none went =
+    let R : Bool → Type 0 = λ b. Steps (Ok b) 0 g h before after in
+    let a' : Steps (Ok false) 0 g h before after = subst R none a in
+    let d : NoStep (fed a'.left g.state) g h before after = a'.gives in
+    let P : GuestView → Type 0 = λ h. Went (stands h) (with_streams v after) o u in
+    let Q : Streams → Type 0 = λ z. Went (stands g) (with_streams v z) o u in
+    same_plan (guest_plan n g) (stands g) (with_streams v before) o u (has_stopped n g d.stopped) (subst Q d.streams (subst P d.guest went))
 
 -- a step failed
-step_fails : (n : ℕ) (g h : GuestView) (v : ShelfView) (i o e i' o' e' : StreamView) (error : SysError) → Steps (Err error) 0 g h (streams i o e) (streams i' o' e')
-    → Went (guest_plan (suc n) g) (world v i o e) (Err (stop_of_error error)) (world v i' o' e')
-step_fails n g h v i o e i' o' e' sys.Input a =
-    let d : StepFailed sys.Input (fed a.left g.state) 0 g h (streams i o e) (streams i' o' e') = a.gives in
-    let few : asks (fed a.left g.state) ≡ asks_next (fed a.left g.state) = asked_all (traps (fed a.left g.state)) (fed a.left g.state) d.trap in
-    let z = d.streams in
-    turns n g a.left (world v i o e) _ _ d.running a.told (FailsInput (record { ends = refl; taken = z.taken; few = (let P : ℕ → Type 0 = λ k. z.taken < k in subst P few z.few); rest = z.left; fails = z.fails; shelf = refl; out = z.out; report = z.err }))
-step_fails n g h v i o e i' o' e' sys.Out a =
-    let d : StepFailed sys.Out (fed a.left g.state) 0 g h (streams i o e) (streams i' o' e') = a.gives in
-    let z = d.streams in
-    turns n g a.left (world v i o e) _ _ d.running a.told (FailsOutput (record { ends = refl; written = z.0.written; given = z.0.given; some = z.0.some; fails = z.0.fails; shelf = refl; input = z.1; report = z.2 }))
-step_fails n g h v i o e i' o' e' sys.Report a =
-    let d : StepFailed sys.Report (fed a.left g.state) 0 g h (streams i o e) (streams i' o' e') = a.gives in
-    let z = d.streams in
-    turns n g a.left (world v i o e) _ _ d.running a.told (FailsReport (record { ends = refl; written = z.0.written; given = z.0.given; some = z.0.some; fails = z.0.fails; shelf = refl; input = z.1; out = z.2 }))
-step_fails n g h v i o e i' o' e' sys.Memory a =
-    let d : StepFailed sys.Memory (fed a.left g.state) 0 g h (streams i o e) (streams i' o' e') = a.gives in
-    let few : asks (fed a.left g.state) ≡ asks_next (fed a.left g.state) = asked_all (traps (fed a.left g.state)) (fed a.left g.state) d.trap in
-    let z = d.streams in
-    turns n g a.left (world v i o e) _ _ d.running a.told (WantsMemory (record { ends = refl; taken = z.taken; few = (let P : ℕ → Type 0 = λ k. z.taken ≤ k in subst P few z.few); input = z.input; shelf = refl; out = z.out.bytes; report = z.err.bytes; out_steady = z.out.steady; report_steady = z.err.steady }))
-
-pub fails : (k n : ℕ) (g h : GuestView) (v : ShelfView) (i o e i' o' e' : StreamView) (error : SysError) → Steps (Err error) 0 g h (streams i o e) (streams i' o' e') → k ≡ suc n
-    → Went (guest_plan k g) (world v i o e) (Err (stop_of_error error)) (world v i' o' e')
-fails k n g h v i o e i' o' e' error a more =
-    let Q : ℕ → Type 0 = λ k. Went (guest_plan k g) (world v i o e) (Err (stop_of_error error)) (world v i' o' e') in
-    subst Q (sym more) (step_fails n g h v i o e i' o' e' error a)
+pub fails : (k n : ℕ) (g h : GuestView) (v : ShelfView) (before after : Streams) (error : SysError) → Steps (Err error) 0 g h before after → k ≡ suc n
+    → Went (guest_plan k g) (with_streams v before) (Err (stop_of_error error)) (with_streams v after)
+fails k n g h v before after error a more =
+    let Q : ℕ → Type 0 = λ k. Went (guest_plan k g) (with_streams v before) (Err (stop_of_error error)) (with_streams v after) in
+    subst Q (sym more) (same_plan (guest_plan (suc n) g) _ _ _ _ (runs n g (ran_when_failed g h before after error a))
+    (turn_fails (λ left. guest_plan n (next_guest g left)) g h v before after error a))
 
 -- the steps before a guest that takes none any more
 pub before : (n k : ℕ) (g : GuestView) (s : World) (o : End) (u : World) → k ≡ n → Went (guest_plan n g) s o u → Went (guest_plan k g) s o u
