@@ -90,8 +90,8 @@ no_steps rest n g left b not =
 spares_on : (t u : State) (n : ℕ) → u ≡ run n t [] → ahead t + while_running t.stop (ahead u) 0 ≡ ahead u
 spares_on t u n is = by_running _ t.stop
     (λ running.
-      let none : ahead t ≡ 0 = ap (λ x. spare x (asks_next t)) running in
-      omega (arith, none, running_some t.stop (ahead u) 0 running))
+    let none : ahead t ≡ 0 = ap (λ x. spare x (asks_next t)) running in
+    omega (arith, none, running_some t.stop (ahead u) 0 running))
     (λ not. omega (arith, none_more t.stop (ahead u) not, ap ahead (is ∙ run_none n t not)))
 
 -- what two parts of a run have shown

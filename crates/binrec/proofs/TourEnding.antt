@@ -1,19 +1,19 @@
 -- What the turns of a traced guest come to is its run, up to the step in which its edges are too many.
-use Rattle.std.proofs.Common.{◌≡◌, ◌<◌, ◌≤◌, nat_le, ℕ, zero, suc, Bool, true, false, List, [], ◌++◌, length, Err, cond, refl, sym, ◌∙◌, ap, arith}
+use Rattle.std.proofs.Common.{◌≡◌, ◌<◌, ◌≤◌, ℕ, zero, suc, Bool, true, false, List, length, Err, refl, sym, ◌∙◌, ap, arith}
 use Rattle.br_word.specs.State.{State, Stop, Running, Exited, Faulted}
 use Rattle.ia_inst.specs.System.{Way, On, Bad}
 use Rattle.ia_inst.specs.Step.{Found, NoCode, NoInst, There, found, step_way, step}
 use Rattle.br_outside.specs.Files.{Files}
 use Rattle.guest_sys.specs.Machine.{fed, bare}
 use Rattle.guest_run.specs.Edges.{is_transfer, edge_by, edge_at, edge_of, edges_from}
-use Rattle.guest_run.specs.Guest.{GuestView, first_edge, answer_of, while_running}
+use Rattle.guest_run.specs.Guest.{GuestView, first_edge, answer_of}
 use Rattle.guest_run.proofs.Shown.{shown_bare}
 use Rattle.trace_file.specs.Edges.{Edge, collected}
 use Rattle.tracer.specs.declared.answers.Traced.{Traced}
-use Rattle.tracer.specs.Tour.{traced, with_step, edge_limit}
+use Rattle.tracer.specs.Tour.{with_step, edge_limit}
 use Rattle.tracer.proofs.Onward.{edges_shown, collected_append, edges_after, after_none}
-use Rattle.binrec.specs.Plans.Plan.{Plan, Ends, Turns}
-use Rattle.binrec.specs.Plans.Told.{Ending, ends_with, turned_before, expected}
+use Rattle.binrec.specs.Plans.Plan.{Plan}
+use Rattle.binrec.specs.Plans.Told.{ends_with, turned_before, expected}
 use Rattle.binrec.specs.Guests.{next_guest, next_turn}
 use Rattle.binrec.specs.Tours.{unless_full, tour_plan}
 use Rattle.binrec.specs.declared.acts.stop.Stop.TheVariants.{Because}
