@@ -131,9 +131,12 @@ decided target original names files s result t h (inr (inr w)) = inr (inr (fetch
 
 pub means_merge : (words : List (List ℕ)) (target original : List ℕ) (names : List (List ℕ)) (s : World) (result : ℕ) (t : World) → Happened (plan words) s result t → IsExact (plan words) s result t → asked_by words ≡ Ok (Merges target original names)
     → MeansMerge target original names s result t
-means_merge words target original names s result t happened exact asked files told =
+means_merge words target original names s result t happened exact asked =
     let P : Result Asked ℕ → Type 0 = λ r. Happened (of_command r (first_name words)) s result t in
     let Q : Result Asked ℕ → Type 0 = λ r. IsExact (of_command r (first_name words)) s result t in
     let quiet : NoInput (merge_plan target original names) = merge_quiet target original names in
     let same : t.input ≡ s.input = untaken (merge_plan target original names) s result t quiet (subst P asked happened) in
-    decided target original names files s result t (record { told = told; input = ap (λ v. v.bytes) same }) (subst Q asked exact files [] (record { shelf = inr told; input = inl quiet }))
+    record {
+      told = λ files told. decided target original names files s result t (record { told = told; input = ap (λ v. v.bytes) same }) (subst Q asked exact files [] (record { shelf = inr told; input = inl quiet }));
+      input = same;
+    }

@@ -1,5 +1,5 @@
 -- Traces that are fetched one after another, and their union, which is stored.
-use Rattle.std.proofs.Common.{◌≡◌, ℕ, ◌+◌, ◌<◌, ◌≤◌, List, [], ◌∷◌, ◌++◌, length, drop, map, get_or, Result, Ok, Err, refl, sym, ◌∙◌, ap, subst, arith, append_assoc}
+use Rattle.std.proofs.Common.{◌≡◌, ℕ, ◌+◌, ◌<◌, ◌≤◌, List, [], ◌∷◌, ◌++◌, length, drop, map, get_or, Result, Ok, Err, sym, ◌∙◌, ap, subst, append_assoc}
 use Rattle.std.proofs.lemmas.List.{append-nil, drop_more, drop_all}
 use Rattle.std.proofs.lemmas.List.Sums.{sum_by_push}
 use Rattle.trace_file.specs.Edges.{Edge, pairs}
@@ -7,10 +7,9 @@ use Rattle.trace_file.specs.Trace.{trace_bytes}
 use Rattle.binrec.specs.Plans.World.{World}
 use Rattle.binrec.specs.Plans.Texts.{End}
 use Rattle.binrec.specs.Plans.Plan.{Plan, Ends, Stores, Went}
-use Rattle.binrec.specs.Traces.{trace_part, traces_part, limited}
-use Rattle.binrec.specs.Commands.{store_part, union_part, merged_line, done_with}
+use Rattle.binrec.specs.Traces.{trace_part, traces_part}
+use Rattle.binrec.specs.Commands.{store_part, merged_line, done_with}
 use Rattle.binrec.specs.declared.acts.stop.Stop.{Stop}
-use Rattle.binrec.specs.declared.acts.stop.Stop.TheVariants.{Memory}
 use Rattle.binrec.specs.declared.acts.stop.Cause.{Cause}
 use Rattle.binrec.proofs.Plans.Runs.{ok_same}
 use Rattle.binrec.proofs.Ends.{stored_trace}

@@ -12,7 +12,7 @@ use Rattle.trace_file.specs.Trace.{trace, trace_bytes}
 use Rattle.trace_file.specs.Trace as trace_file
 use Rattle.guest_run.specs.Guest.{GuestView, beginning, while_running, stop_of}
 use Rattle.tracer.specs.declared.answers.Traced.{Traced}
-use Rattle.tracer.specs.Tour.{first_edge, traced, with_step, edge_limit}
+use Rattle.tracer.specs.Tour.{entry_edge, traced, with_step, edge_limit}
 use Rattle.binrec.specs.Plans.World.{World, on_shelf}
 use Rattle.binrec.specs.Plans.Texts.{Finished, End, end_status, finish_status, cause_status}
 use Rattle.binrec.specs.Plans.Plan.{Plan, Ends, Fetches, Stores, Turned, Turns, Went, GoesOn, FailsInput, FailsOutput, FailsReport, WantsMemory}
@@ -140,7 +140,7 @@ traced_end target digest t = store_end target (trace_bytes t.edges digest) _ (en
 
 pub trace_end : (steps : ℕ) (target original : List ℕ) (args : List (List ℕ)) (word : ℕ) → EndsSo (trace_plan steps target original args word)
 trace_end steps target original args word = fetch_end original 16777216 _ (λ bytes. checked_end (with_digest bytes (of_word word (elf Original bytes))) _ (digest_passes bytes word (elf Original bytes))
-    (λ subject. tour_end (traced_part target subject.digest) (traced_end target subject.digest) steps (beginning subject.exe args) (first_edge subject.exe ∷ [])))
+    (λ subject. tour_end (traced_part target subject.digest) (traced_end target subject.digest) steps (beginning subject.exe args) (entry_edge subject.exe ∷ [])))
 
 traces_end : (digest : List ℕ) (names : List (List ℕ)) (word before : ℕ) (next : List (List Edge) → Plan) → ((traces : List (List Edge)) → EndsSo (next traces)) → EndsSo (traces_part digest names word before next)
 unfolding traces_part

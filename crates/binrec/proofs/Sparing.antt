@@ -19,7 +19,7 @@ use Rattle.trace_file.specs.Edges.{Edge, union_of}
 use Rattle.trace_file.specs.Trace.{trace}
 use Rattle.binrec.specs.Traces.{of_word, with_digest, edges_of_word, counted, traces_part, limited}
 use Rattle.tracer.specs.declared.answers.Traced.{Traced}
-use Rattle.tracer.specs.Tour.{traced, with_step, edge_limit, first_edge}
+use Rattle.tracer.specs.Tour.{traced, with_step, edge_limit, entry_edge}
 use Rattle.binrec.specs.Tours.{tour_plan, unless_full}
 use Rattle.binrec.specs.Commands.{image_part, traced_part, trace_plan, merge_plan, of_command, plan}
 use Rattle.binrec.specs.declared.acts.stop.Cause.{Cause}
@@ -102,7 +102,7 @@ trace_turns : (P : Turned → List ℕ → Plan → Type 0) (steps : ℕ) (targe
 unfolding AllTurns NoInput
 trace_turns P steps target original args word each =
     λ bytes. checked_turns P (with_digest bytes (of_word word (elf Original bytes))) _
-    (λ subject. tour_turns P (traced_part target subject.digest) steps (beginning subject.exe args) (first_edge subject.exe ∷ []) each (λ t. tt) (λ t. tt))
+    (λ subject. tour_turns P (traced_part target subject.digest) steps (beginning subject.exe args) (entry_edge subject.exe ∷ []) each (λ t. tt) (λ t. tt))
 
 command_turns : (P : Turned → List ℕ → Plan → Type 0) (r : Result Asked ℕ) (word : ℕ) → OfGuests P → AllTurns P (of_command r word)
 unfolding AllTurns

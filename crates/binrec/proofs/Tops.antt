@@ -6,6 +6,7 @@ use Rattle.binrec.specs.Plans.Texts.{End}
 use Rattle.binrec.specs.Plans.Plan.{Plan, Went}
 use Rattle.binrec.specs.Plans.Happened.{TellsStop, Happened}
 use Rattle.binrec.specs.Plans.Told.{IsExact, IsComplete, HasCause}
+use Rattle.binrec.specs.Plans.Partial.{IsPartial}
 use Rattle.word_reader.specs.Words.{Asked, Builds, Traces, Runs, Merges}
 use Rattle.binrec.specs.Words.{asked_by, first_name}
 use Rattle.binrec.specs.Commands.{asked_plan, of_command, plan, run_plan, trace_plan}
@@ -16,7 +17,8 @@ use Rattle.binrec.specs.declared.acts.stop.Stop.TheVariants.{Because}
 use Rattle.binrec.specs.declared.acts.stop.Cause.TheVariants.{Usage}
 use Rattle.binrec.proofs.Plans.Runs.{ended}
 use Rattle.binrec.proofs.Plans.Finish.{exact, complete, cause}
-use Rattle.binrec.proofs.Sparing.{sparing}
+use Rattle.binrec.proofs.Plans.Partial.{partial}
+use Rattle.binrec.proofs.Sparing.{sparing, taking}
 use Rattle.binrec.proofs.RunMeant.{means_run}
 use Rattle.binrec.proofs.TraceMeant.{means_trace}
 use Rattle.binrec.proofs.MergeMeant.{means_merge}
@@ -47,6 +49,7 @@ pub record AllOf (words : List (List ℕ)) (s : World) (result : ℕ) (t : World
   pub happened : Happened (plan words) s result t
   pub exact : IsExact (plan words) s result t
   pub complete : IsComplete (plan words) s result t
+  pub partial : IsPartial (plan words) s t
   pub cause : HasCause s result t
   pub usage : MeansUsage words s result t
   pub run : (steps : ℕ) (name : List ℕ) (args : List (List ℕ)) → asked_by words ≡ Ok (Runs steps name args) → MeansRun steps name args (first_name words) s result t
@@ -59,6 +62,7 @@ all_of words s result t law h = record {
   happened = h;
   exact = exact (plan words) s result t (sparing words) h;
   complete = complete (plan words) s result t (sparing words) h;
+  partial = partial (plan words) s result t (sparing words) (taking words) h;
   cause = cause (plan words) s result t h;
   usage = means_usage words s result t law h;
   run = λ steps name args asked. means_run words steps name args s result t (exact (plan words) s result t (sparing words) h) asked;

@@ -12,7 +12,7 @@ use Rattle.guest_run.specs.Run.{run}
 use Rattle.guest_run.specs.Guest.{beginning, answer_of, stop_of, steps_taken, undefined_taken}
 use Rattle.trace_file.specs.Trace.{trace_bytes}
 use Rattle.tracer.specs.declared.answers.Traced.{Traced}
-use Rattle.tracer.specs.Tour.{first_edge}
+use Rattle.tracer.specs.Tour.{entry_edge}
 use Rattle.tracer.specs.Told.{edges_in}
 use Rattle.word_reader.specs.Words.{Asked, Traces}
 use Rattle.binrec.specs.Words.{asked_by, first_name}
@@ -40,7 +40,7 @@ use Rattle.binrec.proofs.MergeMeant.{chosen}
 
 -- the run of the original, and what is done with its trace
 abbrev toured_part : List ℕ → ℕ → List (List ℕ) → Subject → Plan
-toured_part target n args subject = tour_plan (traced_part target subject.digest) n (beginning subject.exe args) (first_edge subject.exe ∷ [])
+toured_part target n args subject = tour_plan (traced_part target subject.digest) n (beginning subject.exe args) (entry_edge subject.exe ∷ [])
 
 line_as : (a b : Stop) (m m' u u' k : ℕ) → a ≡ b → m ≡ m' → u ≡ u' → traced_line a m u k ≡ traced_line b m' u' k
 line_as a b m m' u u' k e f g = ap (λ a. traced_line a m u k) e ∙ (ap (λ m. traced_line b m u k) f ∙ ap (λ u. traced_line b m' u k) g)
@@ -76,7 +76,7 @@ toured : (target digest : List ℕ) (n : ℕ) (exe : Exe) (args : List (List ℕ
     → IsWhole files left (expected (toured_part target n args (record { exe = exe; digest = digest })) files left) s result t → TracesExe target digest n exe (opening exe (arguments args) left) files s result t
 toured target digest n exe args files left s result t told has w =
     let g = beginning exe args in
-    let es = first_edge exe ∷ [] in
+    let es = entry_edge exe ∷ [] in
     let P : Ending → Type 0 = λ e. IsWhole files left e s result t in
     record {
       few = λ few. has_traced target digest n exe args files left s result t told has

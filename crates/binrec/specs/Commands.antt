@@ -14,7 +14,7 @@ use Rattle.word_reader.specs.Words.{Asked, Builds, Traces, Runs, Merges}
 use Rattle.guest_run.specs.Guest.{beginning}
 use Rattle.binrec.specs.Words.{asked_by, first_name}
 use Rattle.tracer.specs.declared.answers.Traced.{Traced}
-use Rattle.tracer.specs.Tour.{first_edge}
+use Rattle.tracer.specs.Tour.{entry_edge}
 use Rattle.binrec.specs.Guests.{guest_plan}
 use Rattle.binrec.specs.Tours.{traced_as, tour_plan}
 use Rattle.binrec.specs.Traces.{of_word, original_part, subject_part, traces_part, limited}
@@ -60,7 +60,7 @@ abbrev pub traced_part : List ℕ → List ℕ → Traced → Plan
 traced_part target digest t = Stores target (trace_bytes t.edges digest) (Ends (Ok (traced_as t)))
 
 abbrev pub trace_plan : ℕ → List ℕ → List ℕ → List (List ℕ) → ℕ → Plan
-trace_plan steps target original args word = subject_part original word (λ subject. tour_plan (traced_part target subject.digest) steps (beginning subject.exe args) (first_edge subject.exe ∷ []))
+trace_plan steps target original args word = subject_part original word (λ subject. tour_plan (traced_part target subject.digest) steps (beginning subject.exe args) (entry_edge subject.exe ∷ []))
 
 -- by the command, and where its first name stands
 abbrev pub asked_plan : Asked → ℕ → Plan

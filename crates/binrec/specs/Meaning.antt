@@ -160,7 +160,7 @@ MergesContent target names None files s result t = OnlySays 3 (object_text objec
 MergesContent target names (Some content) files s result t = (length content ≤ 16777216 → MergesRead target names content (elf Original content) files s result t)
     × (16777216 < length content → OnlySays 7 (cause_text (Limited (limits.File 16777216))) s result t)
 
--- What `merge` does over a shelf that tells, unless memory is wanting or an object fails.
-abbrev pub MeansMerge : List ℕ → List ℕ → List (List ℕ) → World → ℕ → World → Type 0
-MeansMerge target original names s result t = (files : Files) → s.shelf.files ≡ Some files →
-    (result ≡ 4) ⊎ (((result ≡ 3) × (x : Object) × HasFailed x s t) ⊎ MergesContent target names (files original) files s result t)
+-- What `merge` does over a shelf that tells, unless memory is wanting or an object fails; and over any objects it takes nothing of the input.
+pub record MeansMerge (target original : List ℕ) (names : List (List ℕ)) (s : World) (result : ℕ) (t : World) : Type 0 where
+  pub told : (files : Files) → s.shelf.files ≡ Some files → (result ≡ 4) ⊎ (((result ≡ 3) × (x : Object) × HasFailed x s t) ⊎ MergesContent target names (files original) files s result t)
+  pub input : t.input ≡ s.input

@@ -1,5 +1,5 @@
 -- A traced run as turns, and its last line.
-use Rattle.std.specs.Prelude.{ℕ, zero, suc, ◌++◌, List, length, nat_le, cond, codes, Ok, Err}
+use Rattle.std.specs.Prelude.{ℕ, zero, suc, ◌++◌, List, length, nat_le, cond, codes, Err}
 use Rattle.std.specs.Fmt.{decimal}
 use Rattle.br_word.specs.State.{Stop}
 use Rattle.guest_run.specs.Guest.{GuestView, while_running, stop_of}

@@ -1,15 +1,14 @@
 -- Original files whose runs are traced, and their traces, as parts of plans.
-use Rattle.std.specs.Prelude.{ℕ, ◌+◌, nat_le, cond, List, [], ◌∷◌, ◌++◌, length, sum, map, codes, Result, Ok, Err}
-use Rattle.std.specs.Fmt.{decimal}
+use Rattle.std.specs.Prelude.{ℕ, ◌+◌, nat_le, cond, List, [], ◌∷◌, length, Result, Ok, Err}
 use Rattle.sha2.specs.Sha256.{sha256}
 use Rattle.elf_read.specs.Elf.{elf}
 use Rattle.elf_read.specs.Elf as elf_file
 use Rattle.elf_read.specs.declared.exe.Exe.{Exe}
 use Rattle.elf_read.specs.declared.exe.Reach.TheVariants.{Original}
-use Rattle.trace_file.specs.Edges.{Edge, union_of}
+use Rattle.trace_file.specs.Edges.{Edge}
 use Rattle.trace_file.specs.Trace.{trace, trace_bytes}
 use Rattle.trace_file.specs.Trace as trace_file
-use Rattle.binrec.specs.Plans.Plan.{Plan, Ends, Fetches, Stores}
+use Rattle.binrec.specs.Plans.Plan.{Plan, Fetches}
 use Rattle.binrec.specs.Plans.Parts.{checked}
 use Rattle.binrec.specs.declared.acts.stop.Cause.{Cause}
 use Rattle.binrec.specs.declared.acts.stop.Cause.TheVariants.{RefusedWord, Limited}

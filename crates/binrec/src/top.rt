@@ -4,6 +4,7 @@ ghost use Rattle.binrec.specs.Plans.World.{world};
 ghost use Rattle.binrec.specs.Plans.Plan.{Went};
 ghost use Rattle.binrec.specs.Plans.Happened.{Happened};
 ghost use Rattle.binrec.specs.Plans.Told.{IsExact, IsComplete, HasCause};
+ghost use Rattle.binrec.specs.Plans.Partial.{IsPartial};
 ghost use Rattle.word_reader.specs.Words.{Builds, Traces, Runs, Merges};
 ghost use Rattle.binrec.specs.Words.{asked_by, first_name};
 ghost use Rattle.binrec.specs.Commands.{plan, end_of};
@@ -99,7 +100,8 @@ fn work<F: Shelf, I: Source, O: Sink, R: Sink>(
 ///
 /// The clauses: `happened`, the calls made are those of the command's plan and no others; `exact`
 /// and `complete`, over objects that tell what they hold the answer is the expected one, unless memory
-/// is wanting or an object fails; `cause`, status 3 names an object whose count rose; `usage`, `build`, `run`,
+/// is wanting or an object fails; `partial`, what an interrupted command leaves is a front part of what the
+/// whole one does; `cause`, status 3 names an object whose count rose; `usage`, `build`, `run`,
 /// `trace` and `merge`, what the statuses mean.
 pub fn binrec<F: Shelf, I: Source, O: Sink, R: Sink>(
     alloc: Global,
@@ -117,6 +119,9 @@ pub fn binrec<F: Shelf, I: Source, O: Sink, R: Sink>(
         (world (F.seen shelf.new) (I.seen input.new) (O.seen out.new) (R.seen report.new)) }
     ensures complete { IsComplete (plan (map string_bytes words.now))
         (world (F.seen shelf.old) (I.seen input.old) (O.seen out.old) (R.seen report.old)) result.0
+        (world (F.seen shelf.new) (I.seen input.new) (O.seen out.new) (R.seen report.new)) }
+    ensures partial { IsPartial (plan (map string_bytes words.now))
+        (world (F.seen shelf.old) (I.seen input.old) (O.seen out.old) (R.seen report.old))
         (world (F.seen shelf.new) (I.seen input.new) (O.seen out.new) (R.seen report.new)) }
     ensures cause { HasCause
         (world (F.seen shelf.old) (I.seen input.old) (O.seen out.old) (R.seen report.old)) result.0

@@ -14,7 +14,7 @@ use Rattle.guest_run.specs.Guest.{GuestView, beginning, traps, asks_by, asks_nex
 use Rattle.trace_file.specs.Edges.{Edge}
 use Rattle.tracer.specs.declared.answers.Traced.{Traced}
 use Rattle.tracer.specs.declared.answers.TracingError.{TracingError}
-use Rattle.tracer.specs.Tour.{first_edge, error_of, traced, Tour}
+use Rattle.tracer.specs.Tour.{entry_edge, error_of, traced, Tour}
 use Rattle.tracer.specs.Told.{TraceDone, TraceFull, TraceWants, TraceGives}
 use Rattle.tracer.proofs.Courses.{Course, Stood, Filled, Failed, Wanted, AreWithin, StandsAfter, FillsAfter, course}
 
@@ -50,7 +50,7 @@ done_few : (n : ℕ) (s : State) (more : ℕ) → more ≤ while_running s.stop 
 done_few n s more few = omega (arith, few, running_le s.stop (ahead (run n s [])))
 
 told_stood : (n : ℕ) (exe : Exe) (words : List (List ℕ)) (left : List ℕ) (h : GuestView) (hs : List Edge) (a b : Streams)
-    → RunDone (answer_of h.state.stop) n (begun exe words left) (beginning exe words) h a b → StandsAfter n (begun exe words left) (first_edge exe ∷ []) hs
+    → RunDone (answer_of h.state.stop) n (begun exe words left) (beginning exe words) h a b → StandsAfter n (begun exe words left) (entry_edge exe ∷ []) hs
     → TraceDone n exe (begun exe words left) (traced h hs) a b
 told_stood n exe words left h hs a b d w = record {
   edges = w.edges;
@@ -64,7 +64,7 @@ told_stood n exe words left h hs a b d w = record {
 }
 
 told_filled : (n k : ℕ) (exe : Exe) (words : List (List ℕ)) (left : List ℕ) (h : GuestView) (a b : Streams) → k < n
-    → RunDone (answer_of h.state.stop) (suc k) (begun exe words left) (beginning exe words) h a b → FillsAfter k (begun exe words left) (first_edge exe ∷ [])
+    → RunDone (answer_of h.state.stop) (suc k) (begun exe words left) (beginning exe words) h a b → FillsAfter k (begun exe words left) (entry_edge exe ∷ [])
     → TraceFull n exe (begun exe words left) a b
 told_filled n k exe words left h a b l d w = record {
   taken = suc k;
@@ -77,7 +77,7 @@ told_filled n k exe words left h a b l d w = record {
 }
 
 told_failed : (e : SysError) (n k : ℕ) (exe : Exe) (words : List (List ℕ)) (left : List ℕ) (h : GuestView) (a b : Streams) → k < n
-    → RunFailed e (suc k) (begun exe words left) (beginning exe words) h a b → AreWithin k (begun exe words left) (first_edge exe ∷ [])
+    → RunFailed e (suc k) (begun exe words left) (beginning exe words) h a b → AreWithin k (begun exe words left) (entry_edge exe ∷ [])
     → TraceGives (Err (error_of e)) n exe (begun exe words left) a b
 told_failed sys.Input n k exe words left h a b l d w = record { done = d.done; most = omega (arith, l, d.within); within = λ j m. w j (omega (arith, m, d.within)); running = d.running; streams = d.streams }
 told_failed sys.Out n k exe words left h a b l d w = record { done = d.done; most = omega (arith, l, d.within); within = λ j m. w j (omega (arith, m, d.within)); running = d.running; streams = d.streams }
@@ -85,7 +85,7 @@ told_failed sys.Report n k exe words left h a b l d w = record { done = d.done; 
 told_failed sys.Memory n k exe words left h a b l d w = record { done = d.done; most = omega (arith, l, d.within); within = λ j m. w j (omega (arith, m, d.within)); streams = d.streams }
 
 told_wanted : (n k : ℕ) (exe : Exe) (words : List (List ℕ)) (left : List ℕ) (h : GuestView) (a b : Streams) → k ≤ n
-    → RunDone (answer_of h.state.stop) k (begun exe words left) (beginning exe words) h a b → AreWithin k (begun exe words left) (first_edge exe ∷ [])
+    → RunDone (answer_of h.state.stop) k (begun exe words left) (beginning exe words) h a b → AreWithin k (begun exe words left) (entry_edge exe ∷ [])
     → TraceWants n exe (begun exe words left) a b
 told_wanted n k exe words left h a b l d w = record {
   done = k;
@@ -95,7 +95,7 @@ told_wanted n k exe words left h a b l d w = record {
 }
 
 told_course : (n : ℕ) (exe : Exe) (words : List (List ℕ)) (left : List ℕ) (r : Result Traced TracingError) (a b : Streams) → a.input.bytes ≡ Some left
-    → Course n (beginning exe words) (first_edge exe ∷ []) r a b → TraceGives r n exe (begun exe words left) a b
+    → Course n (beginning exe words) (entry_edge exe ∷ []) r a b → TraceGives r n exe (begun exe words left) a b
 told_course n exe words left r a b q w = go w where
   P : Result Traced TracingError → Type 0
   P r = TraceGives r n exe (begun exe words left) a b
@@ -103,21 +103,21 @@ told_course n exe words left r a b q w = go w where
   at : (Q : List ℕ → Type 0) → IfSome a.input.bytes Q → Q left
   at Q h = let R : Option (List ℕ) → Type 0 = λ o. IfSome o Q in subst R q h
 
-  go : Course n (beginning exe words) (first_edge exe ∷ []) r a b → TraceGives r n exe (begun exe words left) a b
+  go : Course n (beginning exe words) (entry_edge exe ∷ []) r a b → TraceGives r n exe (begun exe words left) a b
   go (Stood h hs w t e) = subst P (sym e) (told_stood n exe words left h hs a b (at _ w.told) (at _ t))
   go (Filled k h l w t e) = subst P (sym e) (told_filled n k exe words left h a b l (at _ w.told) (at _ t))
   go (Failed x k h l w t e) = subst P (sym e) (told_failed x n k exe words left h a b l (at _ w.told) (at _ t))
   go (Wanted k h l w t e) = subst P (sym e) (told_wanted n k exe words left h a b l (at _ w.told) (at _ t))
 
-pub tour_told : (n : ℕ) (exe : Exe) (words : List (List ℕ)) (r : Result Traced TracingError) (a b : Streams) → Tour n (beginning exe words) (first_edge exe ∷ []) r a b
+pub tour_told : (n : ℕ) (exe : Exe) (words : List (List ℕ)) (r : Result Traced TracingError) (a b : Streams) → Tour n (beginning exe words) (entry_edge exe ∷ []) r a b
     → IfSome a.input.bytes (λ left. TraceGives r n exe (opening exe (arguments words) left) a b)
 tour_told n exe words r a b w = go a.input.bytes refl where
   go : (o : Option (List ℕ)) → a.input.bytes ≡ o → IfSome o (λ left. TraceGives r n exe (begun exe words left) a b)
   go None q = tt
-  go (Some left) q = told_course n exe words left r a b q (course n (beginning exe words) (first_edge exe ∷ []) r a b refl refl (omega arith) w)
+  go (Some left) q = told_course n exe words left r a b q (course n (beginning exe words) (entry_edge exe ∷ []) r a b refl refl (omega arith) w)
 
 pub tour_told_from : (n : ℕ) (exe : Exe) (words : List (List ℕ)) (g : GuestView) (es : List Edge) (r : Result Traced TracingError) (a b : Streams)
-    → g ≡ beginning exe words → es ≡ first_edge exe ∷ [] → Tour n g es r a b → IfSome a.input.bytes (λ left. TraceGives r n exe (opening exe (arguments words) left) a b)
+    → g ≡ beginning exe words → es ≡ entry_edge exe ∷ [] → Tour n g es r a b → IfSome a.input.bytes (λ left. TraceGives r n exe (opening exe (arguments words) left) a b)
 tour_told_from n exe words g es r a b e f w =
     let P : GuestView → Type 0 = λ g. Tour n g es r a b in
     let Q : List Edge → Type 0 = λ es. Tour n (beginning exe words) es r a b in

@@ -11,14 +11,14 @@ use Rattle.guest_run.specs.Run.{run}
 use Rattle.guest_run.specs.Edges.{edges_from}
 use Rattle.guest_run.specs.Guest.{ahead, answer_of, steps_taken, undefined_taken, RunFailsAt}
 use Rattle.trace_file.specs.Edges.{Edge, in_order}
-use Rattle.tracer.specs.Tour.{first_edge, edge_limit}
+use Rattle.tracer.specs.Tour.{entry_edge, edge_limit}
 use Rattle.tracer.specs.declared.answers.Traced.{Traced}
 use Rattle.tracer.specs.declared.answers.TracingError.{TracingError}
 use Rattle.tracer.specs.declared.answers.TracingError.TheVariants as errors
 
 -- the edges of the first n steps of an executable's guest, in order: that its run began, and those of its transfers
 abbrev pub edges_in : Exe → State → ℕ → List Edge
-edges_in exe s n = in_order (first_edge exe ∷ edges_from n s)
+edges_in exe s n = in_order (entry_edge exe ∷ edges_from n s)
 
 -- all steps were taken, and their edges are recorded
 pub record TraceDone (n : ℕ) (exe : Exe) (s : State) (t : Traced) (before after : Streams) : Type 0 where

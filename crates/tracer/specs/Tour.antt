@@ -12,8 +12,8 @@ use Rattle.tracer.specs.declared.answers.TracingError.{TracingError}
 use Rattle.tracer.specs.declared.answers.TracingError.TheVariants as errors
 
 -- that the run of an executable began
-abbrev pub first_edge : Exe → Edge
-first_edge exe = (0, exe.entry)
+abbrev pub entry_edge : Exe → Edge
+entry_edge exe = (0, exe.entry)
 
 -- the edges with that of a step, if it has one
 abbrev pub with_step : Option Edge → List Edge → List Edge

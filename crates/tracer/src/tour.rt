@@ -4,7 +4,7 @@ ghost use Rattle.elf_read.specs.Elf.{IsGuest};
 ghost use Rattle.guest_run.specs.Opening.{FitArguments, opening, arguments};
 ghost use Rattle.guest_run.specs.Guest.{beginning, streams};
 ghost use Rattle.guest_sys.specs.Streams.{Streams};
-ghost use Rattle.tracer.specs.Tour.{Tour, Rests, first_edge, edge_limit};
+ghost use Rattle.tracer.specs.Tour.{Tour, Rests, entry_edge, edge_limit};
 ghost use Rattle.tracer.specs.Told.{TraceGives};
 
 use crate::answers::{Traced, TracingError};
@@ -90,7 +90,7 @@ pub fn trace<I: Source, O: Sink, E: Sink>(
     requires args { FitArguments (map string_bytes args.now) }
     requires budget { budget ≤ 10 ^ 18 }
     ensures few { IfOk result (λ t. length t.edges ≤ edge_limit) }
-    ensures tour { Tour budget (beginning exe.now (map string_bytes args.now)) (first_edge exe.now ∷ []) result
+    ensures tour { Tour budget (beginning exe.now (map string_bytes args.now)) (entry_edge exe.now ∷ []) result
         (streams (I.seen input.old) (O.seen out.old) (E.seen err.old)) (streams (I.seen input.new) (O.seen out.new) (E.seen err.new)) }
     ensures told { IfSome (I.seen input.old).bytes (λ left. TraceGives result budget exe.now (opening exe.now (arguments (map string_bytes args.now)) left)
         (streams (I.seen input.old) (O.seen out.old) (E.seen err.old)) (streams (I.seen input.new) (O.seen out.new) (E.seen err.new))) }

@@ -4,7 +4,7 @@ ghost use Rattle.elf_read.specs.Elf.{IsGuest};
 ghost use Rattle.br_outside.specs.Outside.{ShelfView};
 ghost use Rattle.guest_run.specs.Guest.{beginning, stop_of};
 ghost use Rattle.guest_run.specs.Opening.{FitArguments};
-ghost use Rattle.tracer.specs.Tour.{first_edge};
+ghost use Rattle.tracer.specs.Tour.{entry_edge};
 ghost use Rattle.binrec.specs.Plans.World.{World, on_shelf, world};
 ghost use Rattle.binrec.specs.Plans.Plan.{Went};
 ghost use Rattle.binrec.specs.Plans.Parts.{Goes, Checks};
@@ -47,7 +47,7 @@ fn trace_guest<I: Source, O: Sink, R: Sink>(
     requires fit { FitArguments (map string_bytes args.now) }
     requires guest { IsGuest exe.now }
     requires few { steps ≤ 10 ^ 18 }
-    ensures goes { (v : ShelfView) → Goes (λ t. t) (λ last. tour_plan last steps (beginning exe.now (map string_bytes args.now)) (first_edge exe.now ∷ []))
+    ensures goes { (v : ShelfView) → Goes (λ t. t) (λ last. tour_plan last steps (beginning exe.now (map string_bytes args.now)) (entry_edge exe.now ∷ []))
         (world v (I.seen input.old) (O.seen out.old) (R.seen report.old)) result (world v (I.seen input.new) (O.seen out.new) (R.seen report.new)) }
     ensures few { IfOk result (λ t. length t.edges ≤ 2000000) }
 {

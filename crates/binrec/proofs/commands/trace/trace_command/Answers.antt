@@ -1,7 +1,7 @@
 use Rattle.std.proofs.Common.{ℕ, List, [], ◌∷◌, map, string_bytes}
 use Rattle.elf_read.proofs.Accepted.{original_is_guest}
 use Rattle.guest_run.specs.Guest.{beginning}
-use Rattle.tracer.specs.Tour.{first_edge}
+use Rattle.tracer.specs.Tour.{entry_edge}
 use Rattle.binrec.specs.Plans.World.{world}
 use Rattle.binrec.specs.Plans.Plan.{Plan}
 use Rattle.binrec.specs.Tours.{tour_plan}
@@ -12,7 +12,7 @@ use Rattle.binrec.proofs.commands.trace.trace_command.Goals as goal
 
 -- what comes behind the original
 abbrev behind : ℕ → List ℕ → List (List ℕ) → Subject → Plan
-behind steps target args subject = tour_plan (traced_part target subject.digest) steps (beginning subject.exe args) (first_edge subject.exe ∷ [])
+behind steps target args subject = tour_plan (traced_part target subject.digest) steps (beginning subject.exe args) (entry_edge subject.exe ∷ [])
 
 pub returns-in_err-subject : goal.returns-in_err-subject
 returns-in_err-subject g c =
