@@ -1,17 +1,15 @@
 -- What the turns of a traced guest come to is its run, up to the step in which its edges are too many.
-use Rattle.std.proofs.Common.{◌≡◌, ◌<◌, ◌≤◌, ℕ, zero, suc, Bool, true, false, List, length, Err, refl, sym, ◌∙◌, ap, arith}
-use Rattle.br_word.specs.State.{State, Stop, Running, Exited, Faulted}
-use Rattle.ia_inst.specs.System.{Way, On, Bad}
-use Rattle.ia_inst.specs.Step.{Found, NoCode, NoInst, There, found, step_way, step}
+use Rattle.std.proofs.Common.{◌≡◌, ◌<◌, ◌≤◌, ℕ, zero, suc, List, length, Err, sym, ◌∙◌, ap, arith}
+use Rattle.br_word.specs.State.{State, Running}
+use Rattle.ia_inst.specs.Step.{step}
 use Rattle.br_outside.specs.Files.{Files}
-use Rattle.guest_sys.specs.Machine.{fed, bare}
-use Rattle.guest_run.specs.Edges.{is_transfer, edge_by, edge_at, edge_of, edges_from}
-use Rattle.guest_run.specs.Guest.{GuestView, first_edge, answer_of}
-use Rattle.guest_run.proofs.Shown.{shown_bare}
+use Rattle.guest_sys.specs.Machine.{fed}
+use Rattle.guest_run.specs.Edges.{edge_of, edges_from}
+use Rattle.guest_run.specs.Guest.{GuestView, answer_of}
 use Rattle.trace_file.specs.Edges.{Edge, collected}
 use Rattle.tracer.specs.declared.answers.Traced.{Traced}
 use Rattle.tracer.specs.Tour.{with_step, edge_limit}
-use Rattle.tracer.proofs.Onward.{edges_shown, collected_append, edges_after, after_none}
+use Rattle.tracer.proofs.Onward.{all_rest, collected_append, collected_step, edges_after, after_none}
 use Rattle.binrec.specs.Plans.Plan.{Plan}
 use Rattle.binrec.specs.Plans.Told.{ends_with, turned_before, expected}
 use Rattle.binrec.specs.Guests.{next_guest, next_turn}
@@ -23,22 +21,6 @@ use Rattle.binrec.proofs.Touring.{runs, none_left, has_stopped, has_room, is_ful
 use Rattle.binrec.proofs.Ending.{Rest, ran_before, IsBare, bare_next, by_running, no_step, no_steps, turn_ran}
 
 -- ---- the edges of a run
-
--- a step has at most one edge
-by_one : (b : Bool) (w : Way) (site : ℕ) (es : List Edge) → collected (edge_by b w site) es ≡ with_step (first_edge (edge_by b w site)) es
-by_one true (On t) site es = refl
-by_one true (Bad f) site es = refl
-by_one false w site es = refl
-
-at_one : (f : Found) (s : State) (es : List Edge) → collected (edge_at f s 0) es ≡ with_step (first_edge (edge_at f s 0)) es
-at_one NoCode s es = refl
-at_one NoInst s es = refl
-at_one (There i n) s es = by_one (is_transfer i) (step_way s 0) s.eip es
-
-of_one : (x : Stop) (s : State) (es : List Edge) → collected (edge_of x s 0) es ≡ with_step (first_edge (edge_of x s 0)) es
-of_one Running s es = at_one (found s.eip s.regions) s es
-of_one (Exited n) s es = refl
-of_one (Faulted f) s es = refl
 
 -- the edges that are recorded after a step
 abbrev next_edges : GuestView → List ℕ → List Edge → List Edge
@@ -53,8 +35,7 @@ edges_step : (n : ℕ) (g : GuestView) (left : List ℕ) (es : List Edge) → ed
 edges_step n g left es =
     let s = fed left g.state in
     let t = step s 0 in
-    let rest : edges_from n t ≡ edges_from n (fed t.input (bare t)) = ap (λ t. edges_from n t) (shown_bare t) ∙ edges_shown n t.out t.err (fed t.input (bare t)) in
-    sym (collected_append (edge_of s.stop s 0) (edges_from n t) es ∙ (ap (collected (edges_from n t)) (of_one s.stop s es) ∙ ap (λ xs. collected xs (next_edges g left es)) rest))
+    sym (collected_append (edge_of s.stop s 0) (edges_from n t) es ∙ (ap (collected (edges_from n t)) (collected_step s.stop s 0 es) ∙ ap (λ xs. collected xs (next_edges g left es)) (sym (all_rest n t))))
 
 -- the edges are not too many before the k-th step
 abbrev pub AreFew : ℕ → State → List Edge → Type 0

@@ -62,7 +62,7 @@ edges_none (suc n) s h = ap (λ xs. xs ++ edges_from n (step s 0)) (of_none s.st
 
 -- ---- after a step
 
-all_rest : (n : ℕ) (t : State) → edges_from n (fed t.input (bare t)) ≡ edges_from n t
+pub all_rest : (n : ℕ) (t : State) → edges_from n (fed t.input (bare t)) ≡ edges_from n t
 all_rest n t = sym (edges_shown n t.out t.err (fed t.input (bare t))) ∙ ap (λ u. edges_from n u) (sym (shown_bare t))
 
 -- a state that has come to t, and what it has taken more
@@ -91,6 +91,9 @@ collected_one : (o : Option Edge) (es : List Edge) → collected (as_list o) es 
 collected_one None es = refl
 collected_one (Some e) es = refl
 
+pub collected_step : (x : Stop) (s : State) (c : ℕ) (es : List Edge) → collected (edge_of x s c) es ≡ with_step (first_edge (edge_of x s c)) es
+collected_step x s c es = ap (λ xs. collected xs es) (of_one x s c) ∙ collected_one (first_edge (edge_of x s c)) es
+
 -- the edges with those of n steps
 abbrev pub edges_after : ℕ → State → List Edge → List Edge
 edges_after n s es = collected (edges_from n s) es
@@ -103,7 +106,7 @@ pub after_first : (n : ℕ) (s : State) (g h : GuestView) (a b : Streams) (es : 
 after_first n s g h a b es d =
     let t = step s 0 in
     let o = first_edge (edge_of s.stop s 0) in
-    let first : collected (edge_of s.stop s 0) es ≡ with_step o es = ap (λ xs. collected xs es) (of_one s.stop s 0) ∙ collected_one o es in
+    let first : collected (edge_of s.stop s 0) es ≡ with_step o es = collected_step s.stop s 0 es in
     let P : GuestView → Type 0 = λ k. edges_after (suc n) s es ≡ edges_after n (fed (drop d.more t.input) k.state) (with_step k.edge es) in
     subst P (sym d.guest) (collected_append (edge_of s.stop s 0) (edges_from n t) es
     ∙ (ap (λ xs. collected (edges_from n t) xs) first ∙ ap (λ ys. collected ys (with_step o es)) (sym (edges_rest n d.more t d.few))))
