@@ -10,9 +10,11 @@ use Rattle.build_core.specs.Image.{image}
 use Rattle.binrec.specs.Plans.Plan.{Plan, Ends, Fetches, Stores}
 use Rattle.binrec.specs.Plans.Parts.{checked}
 use Rattle.binrec.specs.Plans.Texts.{Finished, End}
-use Rattle.word_reader.specs.Words.{Asked, Builds, Traces, Runs, Merges}
+use Rattle.word_reader.specs.Words.{Asked, Builds, Traces, Runs, Merges, Shows}
 use Rattle.guest_run.specs.Guest.{beginning}
+use Rattle.flow_graph.specs.Made.{graph_of}
 use Rattle.binrec.specs.Words.{asked_by, first_name}
+use Rattle.binrec.specs.Listings.{limited_graph, listing_part}
 use Rattle.tracer.specs.declared.answers.Traced.{Traced}
 use Rattle.tracer.specs.Tour.{entry_edge}
 use Rattle.binrec.specs.Guests.{guest_plan}
@@ -55,6 +57,10 @@ guest_part name word next = Fetches name 268435456 (λ bytes. checked (of_word w
 abbrev pub run_plan : ℕ → List ℕ → List (List ℕ) → ℕ → Plan
 run_plan steps name args word = guest_part name word (λ exe. guest_plan steps (beginning exe args))
 
+-- the graph of an original and the union of its traces is listed
+abbrev pub show_plan : List ℕ → List (List ℕ) → Plan
+show_plan original names = subject_part original 1 (λ subject. traces_part subject.digest names 2 0 (λ traces. checked (limited_graph (graph_of subject.exe (union_of traces))) (listing_part subject.exe)))
+
 -- a traced run is stored as a trace of the original with this digest
 abbrev pub traced_part : List ℕ → List ℕ → Traced → Plan
 traced_part target digest t = Stores target (trace_bytes t.edges digest) (Ends (Ok (traced_as t)))
@@ -68,6 +74,7 @@ asked_plan (Builds name original traces) word = build_plan name original
 asked_plan (Traces steps target original args) word = trace_plan steps target original args (word + 1)
 asked_plan (Runs steps name args) word = run_plan steps name args word
 asked_plan (Merges target original names) word = merge_plan target original names
+asked_plan (Shows original names) word = show_plan original names
 asked_plan _ word = Ends (Err (Usage 0))
 
 abbrev pub of_command : Result Asked ℕ → ℕ → Plan

@@ -11,6 +11,8 @@ use Rattle.sha2.specs.Sha256.{sha256}
 use Rattle.trace_file.specs.Edges.{Edge, union_of}
 use Rattle.trace_file.specs.Trace.{trace, trace_bytes}
 use Rattle.trace_file.specs.Trace as trace_file
+use Rattle.flow_graph.specs.Graph.{Node}
+use Rattle.flow_graph.specs.Made.{graph_of}
 use Rattle.sim_laws.specs.Preserves.{Preserves}
 use Rattle.binrec.specs.Plans.World.{World}
 use Rattle.br_word.specs.State.{State}
@@ -21,6 +23,7 @@ use Rattle.binrec.specs.Guests.{finish_of, last_line}
 use Rattle.binrec.specs.Plans.Texts.{cause_text, object_text, finish_status}
 use Rattle.binrec.specs.Plans.Told.{HasFailed, LeavesBut}
 use Rattle.binrec.specs.Words.{asked_by}
+use Rattle.binrec.specs.Listings.{listing, shown_line}
 use Rattle.binrec.specs.Commands.{built_line, merged_line}
 use Rattle.binrec.specs.declared.acts.stop.Cause.TheVariants.{Usage, RefusedWord, Limited}
 use Rattle.binrec.specs.declared.acts.stop.Object.{Object}
@@ -119,6 +122,39 @@ abbrev pub MeansRun : ℕ → List ℕ → List (List ℕ) → ℕ → World →
 MeansRun n name args word s result t = (files : Files) (left : List ℕ) → s.shelf.files ≡ Some files → s.input.bytes ≡ Some left →
     (result ≡ 4) ⊎ (((result ≡ 3) × (x : Object) × HasFailed x s t) ⊎ RunsContent n args word left (files name) s result t)
 
+-- ---- traces that are read
+
+-- By the content of a trace; `next` is what its edges lead to, and `before` how many edges the traces before it have.
+abbrev pub ReadsEdges : Result (List Edge) trace_file.Refused → (List Edge → Type 0) → ℕ → ℕ → World → ℕ → World → Type 0
+ReadsEdges (Ok es) next word before s result t = (before + length es ≤ 16777216 → next es) × (16777216 < before + length es → OnlySays 7 (cause_text (Limited limits.Edges)) s result t)
+ReadsEdges (Err refused) next word before s result t = OnlySays 2 (cause_text (RefusedWord word refused.number refused.place)) s result t
+
+abbrev pub ReadsTrace : Option (List ℕ) → (List Edge → Type 0) → List ℕ → ℕ → ℕ → World → ℕ → World → Type 0
+ReadsTrace None next digest word before s result t = OnlySays 3 (object_text objects.Shelf) s result t
+ReadsTrace (Some content) next digest word before s result t = (length content ≤ 16777216 → ReadsEdges (trace content digest) next word before s result t)
+    × (16777216 < length content → OnlySays 7 (cause_text (Limited (limits.File 16777216))) s result t)
+
+-- By the contents of the names that are left, whose traces have `before` edges together so far. With the edges of all it goes on as `last` says.
+abbrev pub ReadsTraces : (List (List Edge) → Type 0) → List ℕ → List (List ℕ) → ℕ → ℕ → List (List Edge) → Files → World → ℕ → World → Type 0
+ReadsTraces last digest [] word before done files s result t = last done
+ReadsTraces last digest (name ∷ names) word before done files s result t =
+    ReadsTrace (files name) (λ es. ReadsTraces last digest names (word + 1) (before + length es) (done ++ es ∷ []) files s result t) digest word before s result t
+
+-- By what the file is as an original, whose word stands before those of its traces.
+abbrev pub ReadsExe : (Exe → List ℕ → List (List Edge) → Type 0) → List (List ℕ) → ℕ → List ℕ → Result Exe Refused → Files → World → ℕ → World → Type 0
+ReadsExe last names word content (Ok exe) files s result t = ReadsTraces (last exe (sha256 content)) (sha256 content) names (word + 1) 0 [] files s result t
+ReadsExe last names word content (Err refused) files s result t = OnlySays 2 (cause_text (RefusedWord word refused.number refused.place)) s result t
+
+-- By the content of the original.
+abbrev pub ReadsContent : (Exe → List ℕ → List (List Edge) → Type 0) → List (List ℕ) → ℕ → Option (List ℕ) → Files → World → ℕ → World → Type 0
+ReadsContent last names word None files s result t = OnlySays 3 (object_text objects.Shelf) s result t
+ReadsContent last names word (Some content) files s result t = (length content ≤ 16777216 → ReadsExe last names word content (elf Original content) files s result t)
+    × (16777216 < length content → OnlySays 7 (cause_text (Limited (limits.File 16777216))) s result t)
+
+-- unless memory is wanting or an object fails
+abbrev pub UnlessBroken : Type 0 → World → ℕ → World → Type 0
+UnlessBroken Done s result t = (result ≡ 4) ⊎ (((result ≡ 3) × (x : Object) × HasFailed x s t) ⊎ Done)
+
 -- ---- merge
 
 -- the bytes were stored under a name, and a line was reported; nothing else was done
@@ -134,33 +170,27 @@ abbrev pub MergesUnion : List ℕ → List ℕ → List Edge → Files → World
 MergesUnion target digest es files s result t = (length es ≤ 2000000 → HasStored target (trace_bytes es digest) (merged_line (length es)) files s result t)
     × (2000000 < length es → OnlySays 7 (cause_text (Limited limits.Union)) s result t)
 
--- By the content of a trace; `next` is what its edges lead to, and `before` how many edges the traces before it have.
-abbrev pub MergesEdges : Result (List Edge) trace_file.Refused → (List Edge → Type 0) → ℕ → ℕ → World → ℕ → World → Type 0
-MergesEdges (Ok es) next word before s result t = (before + length es ≤ 16777216 → next es) × (16777216 < before + length es → OnlySays 7 (cause_text (Limited limits.Edges)) s result t)
-MergesEdges (Err refused) next word before s result t = OnlySays 2 (cause_text (RefusedWord word refused.number refused.place)) s result t
-
-abbrev pub MergesTrace : Option (List ℕ) → (List Edge → Type 0) → List ℕ → ℕ → ℕ → World → ℕ → World → Type 0
-MergesTrace None next digest word before s result t = OnlySays 3 (object_text objects.Shelf) s result t
-MergesTrace (Some content) next digest word before s result t = (length content ≤ 16777216 → MergesEdges (trace content digest) next word before s result t)
-    × (16777216 < length content → OnlySays 7 (cause_text (Limited (limits.File 16777216))) s result t)
-
--- By the contents of the names that are left. The traces before them have `before` edges together.
-abbrev pub MergesTraces : List ℕ → List ℕ → List (List ℕ) → ℕ → ℕ → List (List Edge) → Files → World → ℕ → World → Type 0
-MergesTraces target digest [] word before done files s result t = MergesUnion target digest (union_of done) files s result t
-MergesTraces target digest (name ∷ names) word before done files s result t =
-    MergesTrace (files name) (λ es. MergesTraces target digest names (word + 1) (before + length es) (done ++ es ∷ []) files s result t) digest word before s result t
-
--- By the content of the original.
-abbrev pub MergesRead : List ℕ → List (List ℕ) → List ℕ → Result Exe Refused → Files → World → ℕ → World → Type 0
-MergesRead target names content (Ok exe) files s result t = MergesTraces target (sha256 content) names 3 0 [] files s result t
-MergesRead target names content (Err refused) files s result t = OnlySays 2 (cause_text (RefusedWord 2 refused.number refused.place)) s result t
-
-abbrev pub MergesContent : List ℕ → List (List ℕ) → Option (List ℕ) → Files → World → ℕ → World → Type 0
-MergesContent target names None files s result t = OnlySays 3 (object_text objects.Shelf) s result t
-MergesContent target names (Some content) files s result t = (length content ≤ 16777216 → MergesRead target names content (elf Original content) files s result t)
-    × (16777216 < length content → OnlySays 7 (cause_text (Limited (limits.File 16777216))) s result t)
-
--- What `merge` does over a shelf that tells, unless memory is wanting or an object fails; and over any objects it takes nothing of the input.
+-- What `merge` does over a shelf that tells; and over any objects it takes nothing of the input.
 pub record MeansMerge (target original : List ℕ) (names : List (List ℕ)) (s : World) (result : ℕ) (t : World) : Type 0 where
-  pub told : (files : Files) → s.shelf.files ≡ Some files → (result ≡ 4) ⊎ (((result ≡ 3) × (x : Object) × HasFailed x s t) ⊎ MergesContent target names (files original) files s result t)
+  pub told : (files : Files) → s.shelf.files ≡ Some files → UnlessBroken (ReadsContent (λ exe digest sets. MergesUnion target digest (union_of sets) files s result t) names 2 (files original) files s result t) s result t
+  pub input : t.input ≡ s.input
+
+-- ---- show
+
+-- a text was printed, and a line was reported; nothing else was done
+pub record HasPrinted (text line : List ℕ) (s : World) (result : ℕ) (t : World) : Type 0 where
+  pub status : result ≡ 0
+  pub out : t.out.bytes ≡ option_map (λ written. written ++ text) s.out.bytes
+  pub report : Says line s t
+  pub shelf : Unstored s t
+  pub input : t.input.bytes ≡ s.input.bytes
+
+-- The blocks of the graph were listed, unless they are too many.
+abbrev pub ShowsGraph : Exe → List Node → World → ℕ → World → Type 0
+ShowsGraph exe g s result t = (length g ≤ 65536 → HasPrinted (listing exe g) (shown_line (length g)) s result t)
+    × (65536 < length g → OnlySays 7 (cause_text (Limited limits.Blocks)) s result t)
+
+-- What `show` does over a shelf that tells; and over any objects it takes nothing of the input.
+pub record MeansShow (original : List ℕ) (names : List (List ℕ)) (s : World) (result : ℕ) (t : World) : Type 0 where
+  pub told : (files : Files) → s.shelf.files ≡ Some files → UnlessBroken (ReadsContent (λ exe digest sets. ShowsGraph exe (graph_of exe (union_of sets)) s result t) names 1 (files original) files s result t) s result t
   pub input : t.input ≡ s.input

@@ -1,22 +1,23 @@
 -- The commands that there are so far, read from the words of the command line.
 use Rattle.std.specs.Prelude.{◌≡◌, ℕ, min, Bool, ◌||◌, List, [], ◌∷◌, codes, Result, Ok, Err, cond}
 use Rattle.std.specs.Str.{bytes_eq}
-use Rattle.word_reader.specs.Words.{Asked, Builds, Traces, Runs, Merges, command}
+use Rattle.word_reader.specs.Words.{Asked, Builds, Traces, Runs, Merges, Shows, command}
 use Rattle.word_reader.specs.Reads.{asked_of}
 use Rattle.word_reader.specs.declared.command.Command.{Command}
 
--- `build` takes no word behind E yet, and `show`, `session` and `demo` are not there yet
+-- `build` takes no word behind E yet, and `session` and `demo` are not there yet
 abbrev pub built : Asked → Result Asked ℕ
 built (Builds n e []) = Ok (Builds n e [])
 built (Builds n e (word ∷ words)) = Err 3
 built (Traces steps t e args) = Ok (Traces steps t e args)
 built (Runs steps e args) = Ok (Runs steps e args)
 built (Merges t e traces) = Ok (Merges t e traces)
+built (Shows e traces) = Ok (Shows e traces)
 built _ = Err 0
 
 -- the command of this word takes all its words
 abbrev pub is_whole : List ℕ → Bool
-is_whole word = bytes_eq word (codes "trace") || (bytes_eq word (codes "run") || bytes_eq word (codes "merge"))
+is_whole word = bytes_eq word (codes "trace") || (bytes_eq word (codes "run") || (bytes_eq word (codes "merge") || bytes_eq word (codes "show")))
 
 -- the position of the first wrong word, by the command's own word
 abbrev pub wrong_at : ℕ → List (List ℕ) → ℕ

@@ -5,10 +5,10 @@ ghost use Rattle.binrec.specs.Plans.Plan.{Went};
 ghost use Rattle.binrec.specs.Plans.Happened.{Happened};
 ghost use Rattle.binrec.specs.Plans.Told.{IsExact, IsComplete, HasCause};
 ghost use Rattle.binrec.specs.Plans.Partial.{IsPartial};
-ghost use Rattle.word_reader.specs.Words.{Builds, Traces, Runs, Merges};
+ghost use Rattle.word_reader.specs.Words.{Builds, Traces, Runs, Merges, Shows};
 ghost use Rattle.binrec.specs.Words.{asked_by, first_name};
 ghost use Rattle.binrec.specs.Commands.{plan, end_of};
-ghost use Rattle.binrec.specs.Meaning.{MeansBuild, MeansRun, MeansMerge, MeansUsage};
+ghost use Rattle.binrec.specs.Meaning.{MeansBuild, MeansRun, MeansMerge, MeansShow, MeansUsage};
 ghost use Rattle.binrec.specs.TraceMeaning.{MeansTrace};
 
 use crate::acts::report::{tell, tell_stop};
@@ -16,6 +16,7 @@ use crate::acts::stop::{Cause, Outcome, Stop};
 use crate::commands::build::build_command;
 use crate::commands::merge::merge_command;
 use crate::commands::run::run_command;
+use crate::commands::show::show_command;
 use crate::commands::trace::trace_command;
 use crate::words::{first_name, read_command};
 use br_outside::{Shelf, Sink, Source};
@@ -59,6 +60,7 @@ fn work<F: Shelf, I: Source, O: Sink, R: Sink>(
                 first + 1,
             )
         }
+        Ok(Command::Show { e, traces }) => show_command(alloc, shelf, out, e, traces),
         Ok(_) => Err(Stop::Because(Cause::Usage(0))),
         Err(at) => Err(Stop::Because(Cause::Usage(at))),
     }
@@ -136,6 +138,9 @@ pub fn binrec<F: Shelf, I: Source, O: Sink, R: Sink>(
         (world (F.seen shelf.old) (I.seen input.old) (O.seen out.old) (R.seen report.old)) result.0
         (world (F.seen shelf.new) (I.seen input.new) (O.seen out.new) (R.seen report.new)) }
     ensures trace { (steps : ℕ) (target original : List ℕ) (args : List (List ℕ)) → asked_by (map string_bytes words.now) ≡ Ok (Traces steps target original args) → MeansTrace steps target original args (first_name (map string_bytes words.now) + 1)
+        (world (F.seen shelf.old) (I.seen input.old) (O.seen out.old) (R.seen report.old)) result.0
+        (world (F.seen shelf.new) (I.seen input.new) (O.seen out.new) (R.seen report.new)) }
+    ensures show { (original : List ℕ) (names : List (List ℕ)) → asked_by (map string_bytes words.now) ≡ Ok (Shows original names) → MeansShow original names
         (world (F.seen shelf.old) (I.seen input.old) (O.seen out.old) (R.seen report.old)) result.0
         (world (F.seen shelf.new) (I.seen input.new) (O.seen out.new) (R.seen report.new)) }
     ensures merge { (target original : List ℕ) (names : List (List ℕ)) → asked_by (map string_bytes words.now) ≡ Ok (Merges target original names) → MeansMerge target original names

@@ -8,11 +8,11 @@ use word_reader::{Command, read_words};
 fn is_whole(word: &str) -> bool
     ensures { result ≡ is_whole word.now }
 {
-    word == "trace" || word == "run" || word == "merge"
+    word == "trace" || word == "run" || word == "merge" || word == "show"
 }
 
 /// The position of the first wrong word, by the command's own word: `build` takes no word behind its
-/// second name yet, and `show`, `session` and `demo` are not there yet.
+/// second name yet, and `session` and `demo` are not there yet.
 fn wrong_at(at: u32, words: &[String]) -> u32
     ensures { result ≡ wrong_at at (map string_bytes words.now) }
 {
@@ -25,7 +25,7 @@ fn wrong_at(at: u32, words: &[String]) -> u32
     if is_whole(first.as_str()) { at } else { 0 }
 }
 
-/// Reads the words after the program's name as `build`, `trace`, `run` or `merge`.
+/// Reads the words after the program's name as `build`, `trace`, `run`, `merge` or `show`.
 ///
 /// The error is the position, from 0, of the first word that is wrong, or the number of words where
 /// one is missing; 0 for a command that is not there yet.
@@ -42,6 +42,7 @@ pub fn read_command(words: &[String]) -> Result<Command<'_>, u32>
         Ok(Command::Trace { steps, t, e, args }) => Ok(Command::Trace { steps, t, e, args }),
         Ok(Command::Run { steps, e, args }) => Ok(Command::Run { steps, e, args }),
         Ok(Command::Merge { t, e, traces }) => Ok(Command::Merge { t, e, traces }),
+        Ok(Command::Show { e, traces }) => Ok(Command::Show { e, traces }),
         Ok(_) => Err(0),
         Err(usage) => Err(wrong_at(usage.at, words)),
     }

@@ -31,6 +31,7 @@ abbrev pub limit_text : Limit → List ℕ
 limit_text (limits.File number) = codes "limit file " ++ (decimal number ++ codes "\n")
 limit_text limits.Edges = codes "limit edges 16777216\n"
 limit_text limits.Union = codes "limit union 2000000\n"
+limit_text limits.Blocks = codes "limit blocks 65536\n"
 
 abbrev pub cause_text : Cause → List ℕ
 cause_text (Usage word) = codes "usage " ++ (decimal word ++ codes "\n")

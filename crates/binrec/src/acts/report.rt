@@ -43,6 +43,7 @@ impl Limit {
             Limit::File(number) => format!(in alloc; "limit file {number}\n"),
             Limit::Edges => String::from_str(alloc, "limit edges 16777216\n"),
             Limit::Union => String::from_str(alloc, "limit union 2000000\n"),
+            Limit::Blocks => String::from_str(alloc, "limit blocks 65536\n"),
         }
     }
 }
