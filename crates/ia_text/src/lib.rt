@@ -1,0 +1,8 @@
+//! Prints instructions: the text of each.
+#![tactic(auto)]
+
+mod names;
+mod operands;
+mod text;
+
+pub use text::print_inst;
