@@ -1,5 +1,5 @@
 -- The words that a text is made of.
-use Rattle.std.specs.Prelude.{ℕ, ◌==◌, Bool, true, false, List, codes, if◌then◌else◌}
+use Rattle.std.specs.Prelude.{ℕ, ◌==◌, Bool, List, codes, if◌then◌else◌}
 use Rattle.br_word.specs.declared.types.ShiftOp.{ShiftOp}
 use Rattle.br_word.specs.declared.types.ShiftOp.TheVariants.{Shl, Shr, Sar}
 use Rattle.br_word.specs.declared.types.Width.{Width}

@@ -6,3 +6,6 @@ mod operands;
 mod text;
 
 pub use text::print_inst;
+
+#[cfg(test)]
+mod tests;

@@ -2,7 +2,7 @@
 
 ghost use Rattle.std.specs.Prelude.{◌≡◌, ◌+◌, ◌%◌, ◌^◌, ◌++◌, IfOk, OnOk, OnErr, string_bytes, codes};
 ghost use Rattle.br_word.specs.declared.types.Width.TheVariants.{B8, B16, B32};
-ghost use Rattle.ia_text.specs.Names.{register_name, condition_name};
+ghost use Rattle.ia_text.specs.Names.{register_name, rotate_name, extend_name, condition_name};
 ghost use Rattle.ia_text.specs.Operands.{number_text, address_text, place_text, source_text, count_text};
 ghost use Rattle.ia_text.specs.Text.{one_operand, two_operands, imul_text, return_text, target_text, string_text, text_of};
 
@@ -96,6 +96,31 @@ fn imul(alloc: Global, dst: u8, src: &Rm, by: Option<u32>) -> Result<String, All
     }
 }
 
+fn rotate(alloc: Global, right: bool, dst: &Rm, count: Count) -> Result<String, AllocError>
+    ensures { IfOk result (λ text. string_bytes text ≡ two_operands (rotate_name right) (place_text B32 dst.now) (count_text count)) }
+{
+    counted(alloc, rotate_name(right), Width::B32, dst, count)
+}
+
+fn extend(
+    alloc: Global,
+    signed: bool,
+    from: Width,
+    to: Width,
+    dst: u8,
+    src: &Rm,
+) -> Result<String, AllocError>
+    ensures { IfOk result (λ text. string_bytes text ≡ two_operands (extend_name signed) (register_name to dst) (place_text from src.now)) }
+{
+    widened(
+        alloc,
+        extend_name(signed),
+        register_name(to, dst),
+        from,
+        src,
+    )
+}
+
 fn setcc(alloc: Global, cond: u8, dst: &Rm) -> Result<String, AllocError>
     ensures { IfOk result (λ text. string_bytes text ≡ one_operand (codes "set" ++ condition_name cond) (place_text B8 dst.now)) }
 {
@@ -170,9 +195,7 @@ fn inst_text(alloc: Global, i: &Inst, at: u32, len: u8) -> Result<String, AllocE
         Inst::MulDiv { op, src } => unary(alloc, multiply_name(*op), Width::B32, src),
         Inst::Imul { dst, src, by } => imul(alloc, *dst, src, *by),
         Inst::Shift { op, w, dst, count } => counted(alloc, shift_name(*op), *w, dst, *count),
-        Inst::Rotate { right, dst, count } => {
-            counted(alloc, rotate_name(*right), Width::B32, dst, *count)
-        }
+        Inst::Rotate { right, dst, count } => rotate(alloc, *right, dst, *count),
         Inst::Cwde => String::from_str(alloc, "cwde"),
         Inst::Cdq => String::from_str(alloc, "cdq"),
         Inst::Extend {
@@ -181,13 +204,7 @@ fn inst_text(alloc: Global, i: &Inst, at: u32, len: u8) -> Result<String, AllocE
             to,
             dst,
             src,
-        } => widened(
-            alloc,
-            extend_name(*signed),
-            register_name(*to, *dst),
-            *from,
-            src,
-        ),
+        } => extend(alloc, *signed, *from, *to, *dst, src),
         Inst::Setcc { cond, dst } => setcc(alloc, *cond, dst),
         Inst::Cmov { cond, dst, src } => cmov(alloc, *cond, *dst, src),
         Inst::Jcc { cond, rel } => jcc(alloc, *cond, target(at, len, *rel)),
