@@ -1,4 +1,5 @@
 //! Whole commands over objects in memory.
+mod listings;
 mod traces;
 
 use crate::top::binrec;
@@ -242,7 +243,7 @@ fn reads_the_words(rt: HostRuntime) -> Result<(), Fail> {
         (&["build", "N", ""], "usage 2\n"),
         (&["build", "N", "E", "T"], "usage 3\n"),
         (&["build", "N", "E", "T", ""], "usage 3\n"),
-        (&["show", "E"], "usage 0\n"),
+        (&["show"], "usage 1\n"),
         (&["session", "E", "F"], "usage 0\n"),
         (&["demo", "0"], "usage 0\n"),
         (&["run"], "usage 1\n"),

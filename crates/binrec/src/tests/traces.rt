@@ -4,7 +4,7 @@ use std::alloc::{AllocError, Global};
 use std::test::Fail;
 
 /// The trace of a run of `HELLO`, which takes no jump: the digest is as sha256sum printed it.
-const TRACE: [u8; 52] =
+pub const TRACE: [u8; 52] =
     *b"BRTRACE1\x91\xee\x0a\xdd\x03\xa3\x4f\x6a\x2a\x91\x13\xd3\x28\xd3\x2e\x4a\x5e\xbb\x3c\x21\x43\xc2\xd3\x7f\x1d\xfa\xd5\x99\xcf\xec\x3b\x7e\x01\x00\x00\x00\x00\x00\x00\x00\x54\x80\x04\x08";
 
 /// Runs a command over a shelf with `HELLO` as `E`, and these bytes as `T`.
