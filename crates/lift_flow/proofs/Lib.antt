@@ -1,2 +1,4 @@
 pub mod Standing
 pub mod Reading
+pub mod Follows
+pub mod Unique

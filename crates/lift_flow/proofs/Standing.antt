@@ -1,6 +1,6 @@
 -- What stands at an address, and that it lies below the end of the guest's memory.
 use Rattle.std.proofs.Common.{◌≡◌, ℕ, ◌+◌, ◌-◌, ◌<◌, ◌≤◌, Bool, true, false, ◌&&◌, ◌||◌, List, [], ◌∷◌, ◌++◌, length, take, drop, Option, Some, None, refl, sym, ap, ◌∙◌, arith, length-drop, IsTrue}
-use Rattle.std.specs.Prelude.{if◌then◌else◌, nat_lt, nat_le, IfSome}
+use Rattle.std.specs.Prelude.{if◌then◌else◌, IfSome}
 use Rattle.std.proofs.lemmas.List.{take_at}
 use Rattle.std.proofs.lemmas.Bool.Decides.{nat_tests}
 use Rattle.elf_read.specs.declared.exe.Exe.{Exe}
@@ -11,7 +11,7 @@ use Rattle.elf_read.proofs.Parts.{length-segment_bytes}
 use Rattle.ia_inst.specs.declared.inst.Inst.{Inst}
 use Rattle.ia_inst.specs.Canonical.{valid_of}
 use Rattle.ia_inst.specs.Instructions.{decode_of}
-use Rattle.ia_inst.specs.Step.{Found, NoCode, NoInst, There, found_from}
+use Rattle.ia_inst.specs.Step.{NoCode, found_from}
 use Rattle.ia_decode.proofs.Answered.{decode_take, decode_length, decode_valid}
 use Rattle.ia_decode.proofs.Steps.{IsBytes}
 use Rattle.lift_flow.specs.Places.{found_at, inst_found}

@@ -1,5 +1,6 @@
 -- Blocks: the instructions that run on from a start, and what ends them.
-use Rattle.std.specs.Prelude.{◌≡◌, ℕ, zero, suc, ◌+◌, ◌<◌, ◌↔◌, Bool, true, false, ◌&&◌, if◌then◌else◌, List, [], ◌∷◌, ◌++◌, length, sum_by, All, Option, Some, None}
+use Rattle.std.specs.Prelude.{◌≡◌, ℕ, zero, suc, ◌+◌, ◌<◌, ◌≤◌, ◌↔◌, Bool, true, false, ◌&&◌, List, [], ◌∷◌, length, sum_by, Option, Some, None}
+use Rattle.std.specs.Bool.{then_some}
 use Rattle.elf_read.specs.declared.exe.Exe.{Exe}
 use Rattle.elf_read.specs.Elf.{is_exec}
 use Rattle.ia_inst.specs.declared.inst.Kind.{Kind}
@@ -9,7 +10,7 @@ use Rattle.ia_inst.specs.Step.{Found, NoCode, NoInst, There}
 use Rattle.lift_flow.specs.declared.ends.End.{End}
 use Rattle.lift_flow.specs.declared.ends.End.TheVariants.{Transfer, Island, BeforeIsland, Unreadable, Full}
 use Rattle.lift_flow.specs.declared.ends.Cut.{Cut}
-use Rattle.lift_flow.specs.Places.{Placed, found_at, inst_found}
+use Rattle.lift_flow.specs.Places.{Placed, found_at}
 
 pub record Block : Type 0 where
   pub insts : List Placed
@@ -26,39 +27,39 @@ last_of at (p ∷ ps) = last_of p.at ps
 
 -- ---- what a block is
 
--- one behind the other, from an address on
-abbrev pub AreInRow : ℕ → List Placed → Type 0
-AreInRow at [] = Unit {0}
-AreInRow at (p ∷ ps) = (p.at ≡ at) × AreInRow (at + p.size) ps
-
-abbrev pub Stands : Exe → Placed → Type 0
-Stands exe p = found_at exe p.at ≡ There p.inst p.size
+-- they stand one behind the other from an address on
+abbrev pub StandFrom : Exe → ℕ → List Placed → Type 0
+StandFrom exe at [] = Unit {0}
+StandFrom exe at (p ∷ ps) = (p.at ≡ at) × (found_at exe at ≡ There p.inst p.size) × StandFrom exe (at + p.size) ps
 
 abbrev pub IsOfKind : Kind → Placed → Type 0
 IsOfKind k p = kind_of p.inst ≡ k
 
 abbrev pub ArePlain : List Placed → Type 0
-ArePlain is = All (IsOfKind kinds.Plain) is
+ArePlain [] = Unit {0}
+ArePlain (p ∷ ps) = IsOfKind kinds.Plain p × ArePlain ps
 
--- plain instructions, and a last one
-pub record EndsWith (k : Kind) (is : List Placed) : Type 0 where
-  pub front : List Placed
-  pub last : Placed
-  pub parts : is ≡ front ++ last ∷ []
-  pub plain : ArePlain front
-  pub kind : IsOfKind k last
+-- the last is of this kind, and all before it are plain
+abbrev pub EndWith : Kind → List Placed → Type 0
+EndWith k [] = ⊥
+EndWith k (p ∷ []) = IsOfKind k p
+EndWith k (p ∷ q ∷ qs) = IsOfKind kinds.Plain p × EndWith k (q ∷ qs)
+
+abbrev pub kind_found : Found → Option Kind
+kind_found NoCode = None
+kind_found NoInst = None
+kind_found (There i n) = Some (kind_of i)
 
 -- how instructions end, with this address behind them
 abbrev pub EndsSo : Exe → ℕ → List Placed → End → Type 0
-EndsSo exe next is Transfer = EndsWith kinds.Transfer is × (length is < 65)
-EndsSo exe next is Island = EndsWith kinds.Island is × (length is ≡ 1)
-EndsSo exe next is BeforeIsland = ArePlain is × (0 < length is) × (length is < 64) × ((p : Placed) × (p.at ≡ next) × Stands exe p × IsOfKind kinds.Island p)
-EndsSo exe next is Unreadable = ArePlain is × (length is < 64) × (inst_found (found_at exe next) ≡ None)
+EndsSo exe next is Transfer = EndWith kinds.Transfer is × (length is ≤ 64)
+EndsSo exe next is Island = EndWith kinds.Island is × (length is ≡ 1)
+EndsSo exe next is BeforeIsland = ArePlain is × (0 < length is) × (length is < 64) × (kind_found (found_at exe next) ≡ Some kinds.Island)
+EndsSo exe next is Unreadable = ArePlain is × (length is < 64) × (kind_found (found_at exe next) ≡ None)
 EndsSo exe next is Full = ArePlain is × (length is ≡ 64)
 
 pub record IsBlock (exe : Exe) (start : ℕ) (b : Block) : Type 0 where
-  pub row : AreInRow start b.insts
-  pub stand : All (Stands exe) b.insts
+  pub stand : StandFrom exe start b.insts
   pub ends : EndsSo exe (start + size_of b.insts) b.insts b.end
 
 -- ---- the block of a start
@@ -112,4 +113,4 @@ next_of exe start = start + size_of (block_of exe start).insts
 
 -- the following start: the address after a native instruction, the one before which the block ended, or the address after 64 instructions
 unfoldable pub follow_of : Exe → ℕ → Option ℕ
-follow_of exe start = if is_followed (block_of exe start).end && is_exec (next_of exe start) exe.segments then Some (next_of exe start) else None
+follow_of exe start = then_some (is_followed (block_of exe start).end && is_exec (next_of exe start) exe.segments) (next_of exe start)

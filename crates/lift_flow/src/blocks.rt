@@ -31,7 +31,8 @@ fn longer(cut: Cut, at: u32, len: u8) -> Cut
 pub fn cut(exe: &Exe, start: u32) -> Cut
     requires guest { IsGuest exe.now }
     requires code { IsTrue (is_exec start exe.now.segments) }
-    ensures { result ≡ cut_of start (block_of exe.now start) }
+    ensures block { result ≡ cut_of start (block_of exe.now start) }
+    ensures fits { start + result.len < 2 ^ 32 }
 {
     let mut read = Cut {
         count: 0,

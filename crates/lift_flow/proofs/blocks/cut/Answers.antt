@@ -13,5 +13,5 @@ loop-read-preserved c = record {
   read = plain_read c.args.exe.now c.args.start c.loop-read.read c.loop-read.invariant.read c.loop-read-test.true c.in-Some.inst c.in-Some.len (sym c.in-Some.is ∙ c.placed.ensures.value) c.longer-read.result c.longer-read.ensures (sym c.kind.ensures ∙ c.in-Plain.is);
 }
 
-pub returns-in-Transfer : goal.returns-in-Transfer
-returns-in-Transfer c = transfer_read c.args.exe.now c.args.start c.loop-read.read c.loop-read.invariant.read c.loop-read-test.true c.in-Some.inst c.in-Some.len (sym c.in-Some.is ∙ c.placed.ensures.value) c.longer.result c.longer.ensures (sym c.kind.ensures ∙ c.in-Transfer.is)
+pub returns-in-Transfer-clause-block : goal.returns-in-Transfer-clause-block
+returns-in-Transfer-clause-block c = transfer_read c.args.exe.now c.args.start c.loop-read.read c.loop-read.invariant.read c.loop-read-test.true c.in-Some.inst c.in-Some.len (sym c.in-Some.is ∙ c.placed.ensures.value) c.longer.result c.longer.ensures (sym c.kind.ensures ∙ c.in-Transfer.is)
