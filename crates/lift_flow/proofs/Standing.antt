@@ -43,6 +43,7 @@ found_is exe at = go (is_exec at exe.segments) refl
     answer : (r : Option (Inst × ℕ)) → inst_found (found_from r) ≡ r
     answer None = refl
     answer (Some x) = refl
+
     go : (b : Bool) → is_exec at exe.segments ≡ b → inst_found (if b then found_from (decode_of (code_at at exe.segments)) else NoCode) ≡ decode_of (code_at at exe.segments)
     go true e = answer (decode_of (code_at at exe.segments))
     go false e = sym (ap decode_of (no_code at exe.segments e) ∙ decode_empty)
@@ -60,6 +61,7 @@ code_inside low at (s ∷ ss) each some = go (s.perms.exec && in_segment at s) r
         let w = within s.perms.exec at s e in
         let high = each.0.high in
         omega (arith, w.0, w.1, high, length-segment_bytes s each.0.bytes, length-drop (at - s.start) (segment_bytes s))
+
     go : (b : Bool) → (s.perms.exec && in_segment at s) ≡ b → (0 < length (code_at at ss) → at + length (code_at at ss) ≤ 0xA0000000) → 0 < length (if b then drop (at - s.start) (segment_bytes s) else code_at at ss) → at + length (if b then drop (at - s.start) (segment_bytes s) else code_at at ss) ≤ 0xA0000000
     go true e rest some = here e
     go false e rest some = rest some

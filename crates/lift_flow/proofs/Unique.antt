@@ -47,9 +47,9 @@ more_from : (exe : Exe) (first : Bool) (room : ℕ) (p : Placed) (b : Block) →
 more_from exe first room p b there plain h = record {
   stand = (refl, there, h.stand);
   ends =
-    let P : ℕ → Type 0 = λ next. EndsFrom exe first (suc room) next (p ∷ b.insts) b.end in
-    let e : p.at + p.size + size_of b.insts ≡ p.at + size_of (p ∷ b.insts) = omega (arith, size_cons p b.insts) in
-    subst P e (end_more exe first room (p.at + p.size + size_of b.insts) p b.insts b.end plain h.ends);
+      let P : ℕ → Type 0 = λ next. EndsFrom exe first (suc room) next (p ∷ b.insts) b.end in
+      let e : p.at + p.size + size_of b.insts ≡ p.at + size_of (p ∷ b.insts) = omega (arith, size_cons p b.insts) in
+      subst P e (end_more exe first room (p.at + p.size + size_of b.insts) p b.insts b.end plain h.ends);
 }
 
 module _ (exe : Exe) (room at : ℕ) (rest : (next : ℕ) → IsFrom exe false room next (block_from exe false room next)) where
