@@ -1,5 +1,5 @@
 -- The graph of an executable and control-flow edges: which edges count, the starts of blocks, and their known exits.
-use Rattle.std.specs.Prelude.{◌≡◌, ℕ, zero, suc, ◌+◌, ◌<◌, ◌≤◌, ◌==◌, Bool, true, ◌&&◌, ◌||◌, List, length, Some, Contains, All, ◌↔◌, map, filter, slice_index_or, option_to_list, []}
+use Rattle.std.specs.Prelude.{◌≡◌, ℕ, zero, suc, ◌<◌, ◌==◌, Bool, true, ◌&&◌, ◌||◌, List, length, Some, Contains, All, ◌↔◌, map, filter, slice_index_or, option_to_list, []}
 use Rattle.std.specs.List.Sorted.{IsStrictlyIncreasing}
 use Rattle.elf_read.specs.declared.exe.Exe.{Exe}
 use Rattle.elf_read.specs.Elf.{is_exec}

@@ -13,8 +13,7 @@ fn counts(exe: &Exe, edge: (u32, u32)) -> bool
     requires { IsGuest exe.now }
     ensures { result ≡ counts exe.now edge }
 {
-    in_exec(exe, edge.1)
-        && ((edge.0 == 0 && edge.1 == exe.entry) || leads(exe, edge.0, edge.1))
+    in_exec(exe, edge.1) && ((edge.0 == 0 && edge.1 == exe.entry) || leads(exe, edge.0, edge.1))
 }
 
 /// The edges that count, in their order.

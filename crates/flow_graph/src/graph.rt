@@ -52,7 +52,13 @@ impl Graph {
             Err(e) => return Err(e),
         };
         let mut targets = targets(alloc, counted.as_slice())?;
-        let rows = rows_of(alloc, exe, counted.as_slice(), &mut targets, starts.as_slice())?;
+        let rows = rows_of(
+            alloc,
+            exe,
+            counted.as_slice(),
+            &mut targets,
+            starts.as_slice(),
+        )?;
         Ok(Graph { rows, targets })
     }
 

@@ -51,11 +51,7 @@ fn listed(alloc: Global, set: &BTreeSet<u32>) -> Result<Vec<u32>, AllocError>
 }
 
 /// The starts of blocks, ascending, of edges that count.
-pub fn starts_of(
-    alloc: Global,
-    exe: &Exe,
-    counted: &[(u32, u32)],
-) -> Result<Vec<u32>, GraphError>
+pub fn starts_of(alloc: Global, exe: &Exe, counted: &[(u32, u32)]) -> Result<Vec<u32>, GraphError>
     requires guest { IsGuest exe.now }
     requires code { All (λ (e : Edge). IsTrue (is_exec e.1 exe.now.segments)) counted.now }
     ensures starts { IfOk result (λ v. AreStarts exe.now counted.now v.items) }
