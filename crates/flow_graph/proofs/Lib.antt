@@ -1,0 +1,3 @@
+pub mod Reach
+pub mod Sites
+pub mod Made
