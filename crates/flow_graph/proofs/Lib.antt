@@ -1,2 +1,4 @@
 pub mod Reach
 pub mod Sites
+pub mod Increase
+pub mod OneList
