@@ -1,0 +1,126 @@
+use crate::print_inst;
+use ia_decode::decode;
+use std::alloc::AllocError;
+
+/// An address, a spelling, and its text there: at 0 as another disassembler prints it.
+const ROWS: [(u32, &[u8], &str); 51] = [
+    (0, &[0x00, 0xd8], "add al, bl"),
+    (0, &[0x0b, 0x43, 0x08], "or eax, dword [ebx+0x00000008]"),
+    (0, &[0x13, 0x14, 0xb3], "adc edx, dword [ebx+esi*4]"),
+    (
+        0,
+        &[0x66, 0x19, 0x0d, 0x44, 0x33, 0x22, 0x11],
+        "sbb word [0x11223344], cx",
+    ),
+    (0, &[0x80, 0xe3, 0x80], "and bl, 0x80"),
+    (0, &[0x66, 0x83, 0xe9, 0xff], "sub cx, 0xffff"),
+    (
+        0,
+        &[0x81, 0xf2, 0x78, 0x56, 0x34, 0x12],
+        "xor edx, 0x12345678",
+    ),
+    (0, &[0x80, 0x3c, 0x24, 0x07], "cmp byte [esp], 0x07"),
+    (0, &[0xf6, 0xc4, 0x80], "test ah, 0x80"),
+    (0, &[0x8a, 0x1c, 0x48], "mov bl, byte [eax+ecx*2]"),
+    (0, &[0x66, 0xc7, 0x00, 0x05, 0x00], "mov word [eax], 0x0005"),
+    (
+        0,
+        &[0xa1, 0x44, 0x33, 0x22, 0x11],
+        "mov eax, dword [0x11223344]",
+    ),
+    (
+        0,
+        &[0x8d, 0x84, 0x8b, 0x00, 0x01, 0x00, 0x00],
+        "lea eax, [ebx+ecx*4+0x00000100]",
+    ),
+    (
+        0,
+        &[0x8b, 0x44, 0x0b, 0xff],
+        "mov eax, dword [ebx+ecx*1+0xffffffff]",
+    ),
+    (
+        0,
+        &[0x66, 0x8d, 0x0c, 0x8d, 0x00, 0x00, 0x00, 0x00],
+        "lea cx, [ecx*4]",
+    ),
+    (0, &[0x87, 0x11], "xchg dword [ecx], edx"),
+    (0, &[0x66, 0x91], "xchg cx, ax"),
+    (0, &[0xfe, 0xc4], "inc ah"),
+    (0, &[0x48], "dec eax"),
+    (0, &[0xf6, 0x17], "not byte [edi]"),
+    (0, &[0xf7, 0xd9], "neg ecx"),
+    (0, &[0x6a, 0x80], "push 0xffffff80"),
+    (0, &[0xff, 0x74, 0x24, 0x04], "push dword [esp+0x00000004]"),
+    (0, &[0x8f, 0x45, 0xfc], "pop dword [ebp+0xfffffffc]"),
+    (0, &[0xf7, 0x64, 0x24, 0x04], "mul dword [esp+0x00000004]"),
+    (0, &[0xf7, 0xf9], "idiv ecx"),
+    (
+        0,
+        &[0x0f, 0xaf, 0x43, 0x08],
+        "imul eax, dword [ebx+0x00000008]",
+    ),
+    (
+        0,
+        &[0x69, 0xc0, 0x78, 0x56, 0x34, 0x12],
+        "imul eax, eax, 0x12345678",
+    ),
+    (0, &[0xd0, 0xeb], "shr bl, 0x01"),
+    (0, &[0xd3, 0x7d, 0x00], "sar dword [ebp], cl"),
+    (0, &[0xc1, 0x0b, 0x1f], "ror dword [ebx], 0x1f"),
+    (0, &[0xd3, 0xc9], "ror ecx, cl"),
+    (0, &[0x98], "cwde"),
+    (
+        0,
+        &[0x0f, 0xb6, 0x4b, 0x01],
+        "movzx ecx, byte [ebx+0x00000001]",
+    ),
+    (0, &[0x66, 0x0f, 0xbe, 0xc4], "movsx ax, ah"),
+    (0, &[0x0f, 0xbf, 0x10], "movsx edx, word [eax]"),
+    (
+        0,
+        &[0x0f, 0x9e, 0x44, 0x24, 0x03],
+        "setle byte [esp+0x00000003]",
+    ),
+    (0, &[0x0f, 0x4a, 0xc3], "cmovp eax, ebx"),
+    (0, &[0x0f, 0x87, 0x00, 0x01, 0x00, 0x00], "ja 0x00000106"),
+    (0, &[0x75, 0xfe], "jnz 0x00000000"),
+    (
+        0,
+        &[0xff, 0x24, 0x85, 0x00, 0x80, 0x00, 0x00],
+        "jmp dword [eax*4+0x00008000]",
+    ),
+    (0, &[0xe8, 0x10, 0x00, 0x00, 0x00], "call 0x00000015"),
+    (0, &[0xff, 0xd2], "call edx"),
+    (0, &[0xc3], "ret"),
+    (0, &[0xc2, 0x10, 0x00], "ret 0x0010"),
+    (0, &[0x66, 0xa5], "movsw"),
+    (0, &[0xf3, 0xaa], "rep stosb"),
+    (0, &[0xcd, 0x80], "int 0x80"),
+    (0, &[0x0f, 0x1f, 0x00], "nop"),
+    (0x0804_8000, &[0xeb, 0x7f], "jmp 0x08048081"),
+    (
+        0xffff_fff0,
+        &[0xe8, 0x0b, 0x00, 0x00, 0x00],
+        "call 0x00000000",
+    ),
+];
+
+/// The text behind another, or nothing where the bytes are no spelling.
+fn text_behind(rt: &HostRuntime, front: &str, at: u32, bytes: &[u8]) -> Result<String, AllocError> {
+    let mut out = String::from_str(rt.alloc(), front)?;
+    if let Some((inst, len)) = decode(bytes) {
+        print_inst(rt.alloc(), &inst, at, len, &mut out)?;
+    }
+    Ok(out)
+}
+
+#[test]
+fn prints_each_row(rt: HostRuntime) -> Result<(), AllocError> {
+    for (at, bytes, text) in ROWS {
+        let printed = text_behind(&rt, "", at, bytes)?;
+        assert_eq!(rt; printed.as_str(), text, "at {bytes:?}");
+    }
+    let printed = text_behind(&rt, "00000000 90 ", 0, &[0x90])?;
+    assert_eq!(rt; printed.as_str(), "00000000 90 nop");
+    Ok(())
+}
