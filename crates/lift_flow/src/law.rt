@@ -1,0 +1,7 @@
+//! The law of blocks.
+ghost use Rattle.lift_flow.specs.Blocks.{EachHasOneBlock};
+
+/// Each start has one block, and no other list of instructions is one.
+pub fn one_block()
+    ensures { EachHasOneBlock }
+{}
