@@ -1,9 +1,8 @@
 -- Lines that are written one by one.
-use Rattle.std.proofs.Common.{◌≡◌, ℕ, zero, suc, ◌+◌, ◌-◌, ◌<◌, List, [], ◌∷◌, ◌++◌, length, Some, None, refl, sym, subst, ap, ◌∙◌, arith, append_assoc}
+use Rattle.std.proofs.Common.{◌≡◌, ℕ, ◌+◌, ◌-◌, ◌<◌, List, [], ◌∷◌, ◌++◌, length, Some, None, refl, sym, subst, ap, ◌∙◌, arith, append_assoc}
 use Rattle.std.proofs.lemmas.List.{append-nil}
 use Rattle.elf_read.specs.declared.exe.Exe.{Exe}
 use Rattle.ia_inst.specs.declared.inst.Inst.{Inst}
-use Rattle.ia_inst.specs.Step.{There}
 use Rattle.lift_flow.specs.Places.{Placed, found_at, inst_found}
 use Rattle.lift_flow.specs.Blocks.{StandFrom, block_of}
 use Rattle.lift_flow.proofs.Unique.{block_is}

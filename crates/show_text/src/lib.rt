@@ -7,3 +7,6 @@ mod numbers;
 mod ways;
 
 pub use block::show_block;
+
+#[cfg(test)]
+mod tests;

@@ -1,4 +1,4 @@
-use Rattle.std.proofs.Common.{◌+◌, ◌-◌, [], ◌++◌, refl, sym, ap, ◌∙◌, arith, string_bytes}
+use Rattle.std.proofs.Common.{◌+◌, ◌-◌, [], ◌++◌, refl, ap, ◌∙◌, arith, string_bytes}
 use Rattle.lift_flow.specs.Places.{Placed}
 use Rattle.lift_flow.specs.Blocks.{block_of}
 use Rattle.show_text.specs.Listing.{line_text, line_of}
