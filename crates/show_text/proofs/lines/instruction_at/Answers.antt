@@ -1,0 +1,12 @@
+use Rattle.std.proofs.Common.{Some, sym, ◌∙◌}
+use Rattle.lift_flow.proofs.Standing.{read_here, inside}
+use Rattle.show_text.proofs.lines.instruction_at.Goals as goal
+
+pub returns-in_default-clause-inst : goal.returns-in_default-clause-inst
+returns-in_default-clause-inst c = sym c.in_default.is ∙ read_here c.args.exe.now c.args.at c.exec_bytes-count.result _ c.exec_bytes-count.new.into _ c.exec_bytes-count.ensures.count c.exec_bytes-count.ensures.bytes c.decode.ensures.listed
+
+pub returns-clause-inst : goal.returns-clause-inst
+returns-clause-inst c = sym c.in-Some.is ∙ read_here c.args.exe.now c.args.at c.exec_bytes-count.result _ c.exec_bytes-count.new.into _ c.exec_bytes-count.ensures.count c.exec_bytes-count.ensures.bytes c.decode.ensures.listed
+
+pub returns-clause-inside : goal.returns-clause-inside
+returns-clause-inside c = inside c.args.exe.now c.args.at (Some (c.in-Some.inst, c.in-Some.len)) c.requires (sym c.in-Some.is ∙ read_here c.args.exe.now c.args.at c.exec_bytes-count.result _ c.exec_bytes-count.new.into _ c.exec_bytes-count.ensures.count c.exec_bytes-count.ensures.bytes c.decode.ensures.listed)
