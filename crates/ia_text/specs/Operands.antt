@@ -16,13 +16,16 @@ use Rattle.ia_text.specs.Names.{register_name, size_word}
 
 -- n with at least so many hexadecimal digits
 abbrev pub hexadecimal : ℕ → ℕ → List ℕ
-hexadecimal count n = codes "0x" ++ (replicate (count - length (digits 16 false n)) 48 ++ digits 16 false n)
+hexadecimal count n = replicate (count - length (digits 16 false n)) 48 ++ digits 16 false n
 
 -- two digits for each byte of the width
+abbrev pub digits_text : Width → ℕ → List ℕ
+digits_text B8 n = hexadecimal 2 n
+digits_text B16 n = hexadecimal 4 n
+digits_text B32 n = hexadecimal 8 n
+
 abbrev pub number_text : Width → ℕ → List ℕ
-number_text B8 n = hexadecimal 2 n
-number_text B16 n = hexadecimal 4 n
-number_text B32 n = hexadecimal 8 n
+number_text w n = codes "0x" ++ digits_text w n
 
 -- ---- addresses
 

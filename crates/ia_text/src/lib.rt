@@ -5,6 +5,7 @@ mod names;
 mod operands;
 mod text;
 
+pub use operands::digits_text;
 pub use text::print_inst;
 
 #[cfg(test)]

@@ -1,21 +1,30 @@
 //! The texts of operands.
 
 ghost use Rattle.std.specs.Prelude.{◌≡◌, IfOk, string_bytes};
-ghost use Rattle.ia_text.specs.Operands.{number_text, displacement_text, index_text, sum_text, address_text, place_text, source_text, count_text};
+ghost use Rattle.ia_text.specs.Operands.{digits_text, number_text, displacement_text, index_text, sum_text, address_text, place_text, source_text, count_text};
 
 use crate::names::{register_name, size_word};
 use ia_inst::{Addr, Count, Rm, Src, Width};
 use std::alloc::{AllocError, Global};
 
-/// A number in hexadecimal, with two digits for each byte of the width.
+/// A number in hexadecimal digits, at least two for each byte of the width. The only error is want of
+/// memory.
+pub fn digits_text(alloc: Global, w: Width, n: u32) -> Result<String, AllocError>
+    ensures { IfOk result (λ text. string_bytes text ≡ digits_text w n) }
+{
+    match w {
+        Width::B8 => format!(in alloc; "{n:02x}"),
+        Width::B16 => format!(in alloc; "{n:04x}"),
+        Width::B32 => format!(in alloc; "{n:08x}"),
+    }
+}
+
+/// The same behind `0x`.
 pub fn number_text(alloc: Global, w: Width, n: u32) -> Result<String, AllocError>
     ensures { IfOk result (λ text. string_bytes text ≡ number_text w n) }
 {
-    match w {
-        Width::B8 => format!(in alloc; "0x{n:02x}"),
-        Width::B16 => format!(in alloc; "0x{n:04x}"),
-        Width::B32 => format!(in alloc; "0x{n:08x}"),
-    }
+    let digits = digits_text(alloc, w, n)?;
+    format!(in alloc; "0x{digits}")
 }
 
 /// A displacement behind a base or an index: nothing where it is 0.

@@ -1,11 +1,12 @@
 -- The listing of a block: its address, its instructions, and where it goes on.
-use Rattle.std.specs.Prelude.{ℕ, ◌+◌, ◌-◌, ◌==◌, Bool, true, false, List, [], ◌++◌, length, take, replicate, codes, if◌then◌else◌}
+use Rattle.std.specs.Prelude.{ℕ, ◌+◌, ◌==◌, Bool, true, false, List, [], ◌++◌, take, codes, if◌then◌else◌}
 use Rattle.std.specs.List.{flat_map, list_any}
 use Rattle.std.specs.Prelude.{reverse}
-use Rattle.std.specs.Fmt.{digits}
 use Rattle.elf_read.specs.declared.exe.Exe.{Exe}
 use Rattle.elf_read.specs.Code.{code_at}
 use Rattle.ia_inst.specs.Step.{Found, NoCode, NoInst, There}
+use Rattle.br_word.specs.declared.types.Width.TheVariants.{B8, B32}
+use Rattle.ia_text.specs.Operands.{digits_text}
 use Rattle.ia_text.specs.Text.{text_of}
 use Rattle.lift_flow.specs.declared.ends.End.{End}
 use Rattle.lift_flow.specs.declared.ends.End.TheVariants.{Transfer, Island, BeforeIsland, Unreadable, Full}
@@ -16,15 +17,11 @@ use Rattle.lift_flow.specs.Blocks.{block_of, cut_of}
 
 -- ---- numbers
 
--- n with at least so many hexadecimal digits
-abbrev pub hex : ℕ → ℕ → List ℕ
-hex count n = replicate (count - length (digits 16 false n)) 48 ++ digits 16 false n
-
 abbrev pub address_text : ℕ → List ℕ
-address_text at = hex 8 at
+address_text at = digits_text B32 at
 
 abbrev pub bytes_text : List ℕ → List ℕ
-bytes_text bytes = flat_map (hex 2) bytes
+bytes_text bytes = flat_map (digits_text B8) bytes
 
 -- ---- instructions
 

@@ -1,5 +1,5 @@
 use Rattle.ia_text.proofs.Digits.{number}
-use Rattle.ia_text.proofs.operands.number_text.Goals as goal
+use Rattle.ia_text.proofs.operands.digits_text.Goals as goal
 
 pub returns-in-B8 : goal.returns-in-B8
 returns-in-B8 c = rw c.in-B8.is (number 2 c.in_radix.result c.laid_out.result c.args.n c.format.result c.in_radix.ensures c.laid_out.ensures c.format.ensures.ok)
