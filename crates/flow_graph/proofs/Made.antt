@@ -15,7 +15,7 @@ use Rattle.lift_flow.specs.declared.ends.Cut.{Cut}
 use Rattle.lift_flow.specs.Blocks.{last_of, block_of, cut_of, follow_of}
 use Rattle.trace_file.specs.Edges.{Edge, ascends, IsEdges}
 use Rattle.flow_graph.specs.declared.rows.Row.{Row}
-use Rattle.flow_graph.specs.Graph.{Node, is_beginning, counts, counting, targets_from, known_by, known_of, starts_in, AreStarts, IsGraph}
+use Rattle.flow_graph.specs.Graph.{Node, is_beginning, counts, counting, targets_from, known_by, known_of, starts_in, AreStarts, IsGraph, AreCode}
 use Rattle.flow_graph.specs.Rows.{node_of, nodes_of, IsRow, AreRows, Holds, Gains, IsMade, AreMade}
 use Rattle.flow_graph.proofs.Sites.{from_to, targets_run, targets_ascend, filter_ascends}
 use Rattle.flow_graph.proofs.Reach.{start_exec}
@@ -134,6 +134,11 @@ each_known P known [] h k d l = absurd (omega arith)
 each_known P known (s ∷ ss) h zero d l = h s
 each_known P known (s ∷ ss) h (suc k) d l = each_known P known ss h k d (omega arith)
 
+each_of : (P : Node → Type 0) (known : ℕ → List ℕ) (starts : List ℕ) → ((k d : ℕ) → k < length starts → P (node (get_or starts k d) (known (get_or starts k d)))) → (k : ℕ) (d : Node) → k < length (map (λ s. node s (known s)) starts) → P (get_or (map (λ s. node s (known s)) starts) k d)
+each_of P known [] h k d l = absurd (omega arith)
+each_of P known (s ∷ ss) h zero d l = h 0 0 (omega arith)
+each_of P known (s ∷ ss) h (suc k) d l = each_of P known ss (λ k d l. h (suc k) d (omega arith)) k d (omega arith)
+
 pub is_graph : (exe : Exe) (es : List Edge) (starts targets : List ℕ) (rows : List Row) → ascends es ≡ true → AreStarts exe es starts → AreMade targets starts (known_of exe es) rows → IsGraph exe es (nodes_of targets rows)
 is_graph exe es starts targets rows up a m =
     let G : List Node → Type 0 = IsGraph exe es in
@@ -166,6 +171,9 @@ pub starts_exec : (exe : Exe) (counted : List Edge) (starts : List ℕ) → All 
 starts_exec exe counted starts all a = λ k d l.
     let P : Edge → Type 0 = λ e. IsTrue (is_exec e.1 exe.segments) in
     start_exec exe counted (λ e in'. subst P in'.2 (all in'.0 e in'.1)) (get_or starts k d) ((a.each (get_or starts k d)).0 (Contains-get_or starts k d l))
+
+pub nodes_exec : (exe : Exe) (targets starts : List ℕ) (known : ℕ → List ℕ) (rows : List Row) → All (λ s. IsTrue (is_exec s exe.segments)) starts → AreMade targets starts known rows → AreCode exe (nodes_of targets rows)
+nodes_exec exe targets starts known rows all m = subst (AreCode exe) (sym m.nodes) (each_of (λ b. IsTrue (is_exec b.start exe.segments)) known starts all)
 
 pub counted_ascend : (exe : Exe) (es counted : List Edge) → counted ≡ counting exe es → IsEdges es → ascends counted ≡ true
 counted_ascend exe es counted is h = ap ascends is ∙ filter_ascends (counts exe) es h.order

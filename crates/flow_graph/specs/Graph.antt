@@ -1,5 +1,5 @@
 -- The graph of an executable and control-flow edges: which edges count, the starts of blocks, and their known exits.
-use Rattle.std.specs.Prelude.{◌≡◌, ℕ, zero, suc, ◌<◌, ◌==◌, Bool, true, ◌&&◌, ◌||◌, List, length, Some, Contains, All, ◌↔◌, map, filter, slice_index_or, option_to_list, []}
+use Rattle.std.specs.Prelude.{◌≡◌, ℕ, zero, suc, ◌<◌, ◌==◌, Bool, true, ◌&&◌, ◌||◌, List, length, Some, Contains, All, IsTrue, ◌↔◌, map, filter, slice_index_or, option_to_list, []}
 use Rattle.std.specs.List.Sorted.{IsStrictlyIncreasing}
 use Rattle.elf_read.specs.declared.exe.Exe.{Exe}
 use Rattle.elf_read.specs.Elf.{is_exec}
@@ -82,6 +82,10 @@ pub record IsGraph (exe : Exe) (es : List Edge) (g : List Node) : Type 0 where
   pub starts : AreStarts exe es (starts_in g)
   pub known : All (λ b. b.known ≡ known_of exe es b.start) g
   pub ascend : All (λ b. IsStrictlyIncreasing b.known) g
+
+-- every block starts in code
+abbrev pub AreCode : Exe → List Node → Type 0
+AreCode exe g = All (λ b. IsTrue (is_exec b.start exe.segments)) g
 
 -- the block of an index
 abbrev pub node_at : List Node → ℕ → Node

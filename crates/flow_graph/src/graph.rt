@@ -32,7 +32,7 @@ impl Model for Graph {
 impl Graph {
     ghost use Rattle.std.specs.Prelude.{◌≡◌, ◌<◌, ◌≤◌, IfOk, IfErr, length};
     ghost use Rattle.elf_read.specs.Elf.{IsGuest};
-    ghost use Rattle.flow_graph.specs.Graph.{counting, IsGraph, HasTooMany, node_at};
+    ghost use Rattle.flow_graph.specs.Graph.{counting, IsGraph, AreCode, HasTooMany, node_at};
     ghost use Rattle.flow_graph.specs.declared.error.GraphError.TheVariants.{Blocks};
 
     /// The graph of an executable and edges. Its work grows with their number, and the number and length
@@ -43,6 +43,7 @@ impl Graph {
     pub fn of(alloc: Global, exe: &Exe, edges: &Edges) -> Result<Graph, GraphError>
         requires { IsGuest exe.now }
         ensures graph { IfOk result (IsGraph exe.now (counting exe.now edges.now)) }
+        ensures code { IfOk result (AreCode exe.now) }
         ensures few { IfOk result (λ g. length g ≤ 65536) }
         ensures many { IfErr result (λ e. e ≡ Blocks → HasTooMany exe.now (counting exe.now edges.now)) }
     {
