@@ -1,5 +1,4 @@
 pub mod Plans
-pub mod Addresses
 pub mod Fitting
 pub mod Turning
 pub mod Taking

@@ -1,7 +1,9 @@
 -- A guest's run as turns, and its last line.
-use Rattle.std.specs.Prelude.{ℕ, zero, suc, ◌-◌, false, List, ◌++◌, length, codes, replicate, Ok, Err, Result}
-use Rattle.std.specs.Fmt.{decimal, digits}
+use Rattle.std.specs.Prelude.{ℕ, zero, suc, List, ◌++◌, codes, Ok, Err, Result}
+use Rattle.std.specs.Fmt.{decimal}
 use Rattle.br_word.specs.declared.types.GuestFault.{GuestFault}
+use Rattle.br_word.specs.declared.types.Width.TheVariants.{B32}
+use Rattle.ia_text.specs.Operands.{digits_text}
 use Rattle.br_word.specs.declared.types.GuestFault.TheVariants.{Access, Illegal, Divide}
 use Rattle.br_word.specs.State.{State, Stop, Running, Exited, Faulted}
 use Rattle.ia_inst.specs.Step.{step}
@@ -19,10 +21,6 @@ use Rattle.binrec.specs.declared.acts.stop.Stop as work
 use Rattle.binrec.specs.declared.acts.stop.Stop.TheVariants.{Outside, Memory}
 
 -- ---- the last line
-
--- eight hexadecimal digits
-abbrev pub address_text : ℕ → List ℕ
-address_text at = replicate (8 - length (digits 16 false at)) 48 ++ digits 16 false at
 
 -- how many steps were taken, how many of them read an undefined flag, and what stands behind
 abbrev pub counts_text : ℕ → ℕ → List ℕ → List ℕ
@@ -42,7 +40,7 @@ fault_address (Divide at) = at
 abbrev pub stand_text : Stop → List ℕ
 stand_text Running = codes "budget"
 stand_text (Exited status) = codes "exit " ++ decimal status
-stand_text (Faulted fault) = codes "fault " ++ (fault_kind fault ++ (codes " " ++ address_text (fault_address fault)))
+stand_text (Faulted fault) = codes "fault " ++ (fault_kind fault ++ (codes " " ++ digits_text B32 (fault_address fault)))
 
 -- how a guest stands, the steps that it took, and how many of them read an undefined flag
 abbrev pub last_line : Stop → ℕ → ℕ → List ℕ

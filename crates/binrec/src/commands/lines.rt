@@ -2,23 +2,14 @@
 ghost use Rattle.std.specs.Prelude.{◌≡◌, IfOk, string_bytes};
 ghost use Rattle.br_word.specs.State.{Faulted};
 ghost use Rattle.guest_run.specs.Guest.{stop_of};
-ghost use Rattle.binrec.specs.Guests.{address_text, fault_kind, fault_address, stand_text, last_line, finish_of};
+ghost use Rattle.binrec.specs.Guests.{fault_kind, fault_address, stand_text, last_line, finish_of};
 ghost use Rattle.binrec.specs.Tours.{traced_line};
 
 use crate::acts::stop::Finish;
-use br_word::GuestFault;
+use br_word::{GuestFault, Width};
 use guest_run::Stop as Stand;
+use ia_text::digits_text;
 use std::alloc::{AllocError, Global};
-
-/// An address in eight hexadecimal digits.
-fn address_text(alloc: Global, at: u32) -> Result<String, AllocError>
-    ensures { IfOk result (λ text. string_bytes text ≡ address_text at) }
-{
-    match format!(in alloc; "{at:08x}") {
-        Ok(text) => Ok(text),
-        Err(error) => Err(error),
-    }
-}
 
 /// The word of a fault.
 fn fault_kind(fault: GuestFault) -> &'static str
@@ -45,7 +36,7 @@ fn fault_text(alloc: Global, fault: GuestFault) -> Result<String, AllocError>
     ensures { IfOk result (λ text. string_bytes text ≡ stand_text (Faulted fault)) }
 {
     let kind = fault_kind(fault);
-    let address = address_text(alloc, fault_address(fault))?;
+    let address = digits_text(alloc, Width::B32, fault_address(fault))?;
     format!(in alloc; "fault {kind} {address}")
 }
 
