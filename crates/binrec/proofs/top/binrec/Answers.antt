@@ -9,7 +9,7 @@ returns-in-Ok g c =
     let m = world (g.F.Shelf.seen c.work.new.shelf) (g.I.Source.seen c.work.new.input) (g.O.Sink.seen c.work.new.out) (g.R.Sink.seen c.work.new.report) in
     let t = world (g.F.Shelf.seen c.work.new.shelf) (g.I.Source.seen c.work.new.input) (g.O.Sink.seen c.work.new.out) (g.R.Sink.seen c.tell.new.report) in
     let a = all_of (map string_bytes c.args.words.now) s c.tell.result t c.image_law.ensures (_, m, c.in-Ok.ensures, inr (_, rw (c.as_bytes.ensures.value, c.status.ensures) at c.tell.ensures, refl)) in
-    record { happened = a.happened; exact = a.exact; complete = a.complete; partial = a.partial; cause = a.cause; usage = a.usage; run = a.run; trace = a.trace; build = a.build; merge = a.merge }
+    record { happened = a.happened; exact = a.exact; complete = a.complete; partial = a.partial; cause = a.cause; usage = a.usage; run = a.run; trace = a.trace; build = a.build; merge = a.merge; show = a.show }
 
 pub returns-in-Err : goal.returns-in-Err
 returns-in-Err g c =
@@ -17,4 +17,4 @@ returns-in-Err g c =
     let m = world (g.F.Shelf.seen c.work.new.shelf) (g.I.Source.seen c.work.new.input) (g.O.Sink.seen c.work.new.out) (g.R.Sink.seen c.work.new.report) in
     let t = world (g.F.Shelf.seen c.work.new.shelf) (g.I.Source.seen c.work.new.input) (g.O.Sink.seen c.work.new.out) (g.R.Sink.seen c.tell_stop.new.report) in
     let a = all_of (map string_bytes c.args.words.now) s c.tell_stop.result t c.image_law.ensures (reported_stop _ _ m c.in-Err.stop _ _ c.in-Err.ensures c.tell_stop.ensures) in
-    record { happened = a.happened; exact = a.exact; complete = a.complete; partial = a.partial; cause = a.cause; usage = a.usage; run = a.run; trace = a.trace; build = a.build; merge = a.merge }
+    record { happened = a.happened; exact = a.exact; complete = a.complete; partial = a.partial; cause = a.cause; usage = a.usage; run = a.run; trace = a.trace; build = a.build; merge = a.merge; show = a.show }
