@@ -8,7 +8,9 @@ pub mod TourEnding
 pub mod RunMeant
 pub mod TraceMeant
 pub mod Untaken
+pub mod Reading
 pub mod MergeMeant
+pub mod ShowMeant
 pub mod Runnings
 pub mod Ends
 pub mod Checking

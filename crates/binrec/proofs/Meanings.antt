@@ -24,7 +24,7 @@ use Rattle.binrec.specs.declared.acts.stop.Cause.TheVariants.{Usage, RefusedWord
 use Rattle.binrec.specs.declared.acts.stop.Object.TheVariants as objects
 use Rattle.binrec.specs.declared.acts.stop.Limit.TheVariants as limits
 use Rattle.binrec.proofs.Plans.Told.{told_to}
-use Rattle.binrec.proofs.Runnings.{run_end, trace_end, merge_end, not_1}
+use Rattle.binrec.proofs.Runnings.{run_end, trace_end, merge_end, show_end, not_1}
 use Rattle.binrec.proofs.Courses.{Course, Wants, Misses, Passes, Refuses, Breaks, Keeps, Taken, Holds, course}
 
 -- the report line of an end
@@ -274,6 +274,7 @@ There (Builds n e []) = Unit {0}
 There (Traces steps t e args) = Unit {0}
 There (Runs steps e args) = Unit {0}
 There (Merges t e traces) = Unit {0}
+There (Shows e traces) = Unit {0}
 There _ = ⊥
 
 abbrev AllThere : Result Asked ℕ → Type 0
@@ -312,13 +313,19 @@ merge_no_usage words target original names s result t (o, m, went, reported) ask
     let P : Result Asked ℕ → Type 0 = λ r. Went (of_command r (first_name words)) s o m in
     not_1 o m result t (merge_end target original names s o m (subst P asked went)) reported one
 
+-- nor is one of `show`
+show_no_usage : (words : List (List ℕ)) (original : List ℕ) (names : List (List ℕ)) (s : World) (result : ℕ) (t : World) → Happened (plan words) s result t → asked_by words ≡ Ok (Shows original names) → result ≡ 1 → ⊥
+show_no_usage words original names s result t (o, m, went, reported) asked one =
+    let P : Result Asked ℕ → Type 0 = λ r. Went (of_command r (first_name words)) s o m in
+    not_1 o m result t (show_end original names s o m (subst P asked went)) reported one
+
 only_usage : (words : List (List ℕ)) (s : World) (result : ℕ) (t : World) → Law → Happened (plan words) s result t → result ≡ 1 → (read : Result Asked ℕ) → asked_by words ≡ read → (at : ℕ) × (asked_by words ≡ Err at) × Says (cause_text (Usage at)) s t
 only_usage words s result t law h is (Ok (Builds name original [])) asked = absurd ((means_build words name original s result t law h asked).usage is)
 only_usage words s result t law h is (Ok (Runs steps e args)) asked = absurd (run_no_usage words steps e args s result t h asked is)
 only_usage words s result t law h is (Ok (Builds name original (word ∷ more))) asked = absurd (not_built (command words) words (Builds name original (word ∷ more)) asked)
 only_usage words s result t law h is (Ok (Traces steps t' e args)) asked = absurd (trace_no_usage words steps t' e args s result t h asked is)
 only_usage words s result t law h is (Ok (Merges t' e ts)) asked = absurd (merge_no_usage words t' e ts s result t h asked is)
-only_usage words s result t law h is (Ok (Shows e ts)) asked = absurd (not_built (command words) words (Shows e ts) asked)
+only_usage words s result t law h is (Ok (Shows e ts)) asked = absurd (show_no_usage words e ts s result t h asked is)
 only_usage words s result t law h is (Ok (Sessions e)) asked = absurd (not_built (command words) words (Sessions e) asked)
 only_usage words s result t law h is (Ok (Demos n)) asked = absurd (not_built (command words) words (Demos n) asked)
 only_usage words s result t law h is (Err at) asked = (at, asked, (is_usage words at s result t h asked).line is)

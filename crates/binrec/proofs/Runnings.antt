@@ -1,4 +1,4 @@
--- The ends that `run`, `trace` and `merge` can come to.
+-- The ends that `run`, `trace`, `merge` and `show` can come to.
 use Rattle.std.proofs.Common.{◌≡◌, ◌+◌, ℕ, zero, suc, nat_le, Bool, true, false, List, [], ◌∷◌, length, Result, Ok, Err, cond, sym, ◌∙◌, subst, inl, inr, arith}
 use Rattle.br_word.specs.State.{Stop, Running, Exited, Faulted}
 use Rattle.br_outside.specs.declared.errors.ShelfError.TheVariants as shelf_errors
@@ -10,21 +10,25 @@ use Rattle.elf_read.specs.declared.exe.Reach.TheVariants.{Original, Guest}
 use Rattle.trace_file.specs.Edges.{Edge, union_of}
 use Rattle.trace_file.specs.Trace.{trace, trace_bytes}
 use Rattle.trace_file.specs.Trace as trace_file
+use Rattle.flow_graph.specs.Graph.{Node}
+use Rattle.flow_graph.specs.Made.{graph_of}
 use Rattle.guest_run.specs.Guest.{GuestView, beginning, while_running, stop_of}
 use Rattle.tracer.specs.declared.answers.Traced.{Traced}
 use Rattle.tracer.specs.Tour.{entry_edge, traced, with_step, edge_limit}
-use Rattle.binrec.specs.Plans.World.{World, on_shelf}
+use Rattle.binrec.specs.Plans.World.{World, on_shelf, on_out}
 use Rattle.binrec.specs.Plans.Texts.{Finished, End, end_status, finish_status, cause_status}
-use Rattle.binrec.specs.Plans.Plan.{Plan, Ends, Fetches, Stores, Turned, Turns, Went, GoesOn, FailsInput, FailsOutput, FailsReport, WantsMemory}
+use Rattle.binrec.specs.Plans.Plan.{Plan, Ends, Fetches, Stores, Prints, Turned, Turns, Went, GoesOn, FailsInput, FailsOutput, FailsReport, WantsMemory}
 use Rattle.binrec.specs.Plans.Parts.{checked}
 use Rattle.binrec.specs.Plans.Happened.{Reported}
 use Rattle.binrec.specs.Guests.{guest_plan, next_guest, next_turn, stands, finish_of, finished}
 use Rattle.binrec.specs.Tours.{traced_as, unless_full, tour_plan}
-use Rattle.binrec.specs.Traces.{of_word, with_digest, edges_of_word, counted, traces_part, limited}
-use Rattle.binrec.specs.Commands.{run_plan, traced_part, trace_plan, done_with, merged_line, store_part, union_part, merge_plan}
+use Rattle.binrec.specs.Traces.{of_word, with_digest, edges_of_word, counted, subject_part, traces_part, limited}
+use Rattle.binrec.specs.Listings.{listing, limited_graph, shown_line, prints, listing_part}
+use Rattle.binrec.specs.Commands.{run_plan, traced_part, trace_plan, done_with, merged_line, store_part, union_part, merge_plan, show_plan}
 use Rattle.binrec.specs.declared.acts.stop.Cause.{Cause}
 use Rattle.binrec.specs.declared.acts.stop.Cause.TheVariants.{Limited}
 use Rattle.binrec.specs.declared.acts.stop.Limit.TheVariants as limits
+use Rattle.binrec.specs.declared.commands.original.Subject.{Subject}
 
 -- no usage
 abbrev pub NoUsage : End → Type 0
@@ -97,6 +101,17 @@ store_end name bytes next rest s o t (inr (v, Ok u, was, went)) = rest (on_shelf
 store_end name bytes next rest s o t (inr (v, Err store_errors.Failed, was, is)) = ends_so o _ is.0 (λ h. omega (arith, h))
 store_end name bytes next rest s o t (inr (v, Err store_errors.Memory, was, is)) = ends_so o _ is.0 (λ h. omega (arith, h))
 
+print_end : (text : List ℕ) (next : Plan) → EndsSo next → EndsSo (Prints text next)
+unfolding Went
+print_end text next rest s o t (inl out) = ends_so o _ out.0 (λ h. omega (arith, h))
+print_end text next rest s o t (inr (v, Ok u, was, went)) = rest (on_out s v) o t went
+print_end text next rest s o t (inr (v, Err sink_errors.Failed, was, is)) = ends_so o _ is.0 (λ h. omega (arith, h))
+print_end text next rest s o t (inr (v, Err sink_errors.Memory, was, is)) = ends_so o _ is.0 (λ h. omega (arith, h))
+
+prints_end : (text : List ℕ) (next : Plan) → EndsSo next → EndsSo (prints text next)
+prints_end [] next rest = rest
+prints_end (b ∷ bs) next rest = print_end (b ∷ bs) next rest
+
 done_end : (line : List ℕ) → EndsSo (Ends (Ok (done_with line)))
 done_end line = end_end (done_with line) (λ h. omega (arith, h))
 
@@ -130,6 +145,9 @@ edges_pass word before (Err refused) = λ h. omega (arith, h)
 union_passes : (es : List Edge) → Passes (limited es)
 union_passes es = either_passes (nat_le (length es) 2000000) (Ok es) (Err (Limited limits.Union)) tt (λ h. omega (arith, h))
 
+graph_passes : (g : List Node) → Passes (limited_graph g)
+graph_passes g = either_passes (nat_le (length g) 65536) (Ok g) (Err (Limited limits.Blocks)) tt (λ h. omega (arith, h))
+
 -- ---- the commands
 
 pub run_end : (steps : ℕ) (name : List ℕ) (args : List (List ℕ)) (word : ℕ) → EndsSo (run_plan steps name args word)
@@ -151,9 +169,21 @@ traces_end digest (name ∷ names) word before next rest = fetch_end name 167772
 union_end : (target digest : List ℕ) (es : List Edge) → EndsSo (union_part target digest es)
 union_end target digest es = checked_end (limited es) (store_part target digest) (union_passes es) (λ es. store_end target (trace_bytes es digest) _ (done_end (merged_line (length es))))
 
+-- an original and its traces are read
+reading_end : (original : List ℕ) (names : List (List ℕ)) (word : ℕ) (next : Subject → List (List Edge) → Plan) → ((subject : Subject) (traces : List (List Edge)) → EndsSo (next subject traces))
+    → EndsSo (subject_part original word (λ subject. traces_part subject.digest names (word + 1) 0 (next subject)))
+reading_end original names word next rest = fetch_end original 16777216 _ (λ bytes. checked_end (with_digest bytes (of_word word (elf Original bytes))) _ (digest_passes bytes word (elf Original bytes))
+    (λ subject. traces_end subject.digest names (word + 1) 0 (next subject) (rest subject)))
+
 pub merge_end : (target original : List ℕ) (names : List (List ℕ)) → EndsSo (merge_plan target original names)
-merge_end target original names = fetch_end original 16777216 _ (λ bytes. checked_end (with_digest bytes (of_word 2 (elf Original bytes))) _ (digest_passes bytes 2 (elf Original bytes))
-    (λ subject. traces_end subject.digest names 3 0 _ (λ traces. union_end target subject.digest (union_of traces))))
+merge_end target original names = reading_end original names 2 _ (λ subject traces. union_end target subject.digest (union_of traces))
+
+listing_end : (exe : Exe) (g : List Node) → EndsSo (listing_part exe g)
+listing_end exe g = prints_end (listing exe g) _ (done_end (shown_line (length g)))
+
+pub show_end : (original : List ℕ) (names : List (List ℕ)) → EndsSo (show_plan original names)
+show_end original names = reading_end original names 1 _
+    (λ subject traces. let g = graph_of subject.exe (union_of traces) in checked_end (limited_graph g) (listing_part subject.exe) (graph_passes g) (listing_end subject.exe))
 
 pub not_1 : (o : End) (m : World) (result : ℕ) (t : World) → NoUsage o → Reported o m result t → result ≡ 1 → ⊥
 not_1 o m result t apart (inl four) one = let z : 4 ≡ 1 = sym four.0 ∙ one in omega (arith, z)

@@ -10,19 +10,22 @@ use Rattle.guest_sys.specs.Calls.{spare}
 use Rattle.guest_run.specs.Guest.{GuestView, beginning, while_running, asks_next}
 use Rattle.word_reader.specs.Words.{Asked, Builds, Traces, Runs, Merges, Shows, Sessions, Demos}
 use Rattle.binrec.specs.Words.{asked_by, first_name}
-use Rattle.binrec.specs.Plans.Plan.{Plan, Turned, Turns}
+use Rattle.binrec.specs.Plans.Plan.{Plan, Ends, Turned, Turns}
 use Rattle.binrec.specs.Plans.Parts.{checked}
 use Rattle.binrec.specs.Plans.Told.{NoInput, AllTurns, IsSparing}
 use Rattle.binrec.specs.Plans.Partial.{IsTaking}
 use Rattle.binrec.specs.Guests.{guest_plan, next_guest, next_turn, stands}
 use Rattle.trace_file.specs.Edges.{Edge, union_of}
 use Rattle.trace_file.specs.Trace.{trace}
-use Rattle.binrec.specs.Traces.{of_word, with_digest, edges_of_word, counted, traces_part, limited}
+use Rattle.binrec.specs.Traces.{of_word, with_digest, edges_of_word, counted, subject_part, traces_part, limited}
+use Rattle.flow_graph.specs.Made.{graph_of}
+use Rattle.binrec.specs.Listings.{listing, limited_graph, shown_as, prints, listing_part}
 use Rattle.tracer.specs.declared.answers.Traced.{Traced}
 use Rattle.tracer.specs.Tour.{traced, with_step, edge_limit, entry_edge}
 use Rattle.binrec.specs.Tours.{tour_plan, unless_full}
-use Rattle.binrec.specs.Commands.{image_part, traced_part, trace_plan, merge_plan, of_command, plan}
+use Rattle.binrec.specs.Commands.{image_part, traced_part, trace_plan, merge_plan, show_plan, of_command, plan}
 use Rattle.binrec.specs.declared.acts.stop.Cause.{Cause}
+use Rattle.binrec.specs.declared.commands.original.Subject.{Subject}
 use Rattle.binrec.proofs.Turning.{has_stopped}
 use Rattle.binrec.proofs.Taking.{guest_uses}
 
@@ -92,11 +95,26 @@ traces_turns P digest [] word before next h = h []
 traces_turns P digest (name ∷ names) word before next h =
     λ bytes. checked_turns P (counted before (edges_of_word word (trace bytes digest))) _ (λ es. traces_turns P digest names (word + 1) (before + length es) (λ rest. next (es ∷ rest)) (λ rest. h (es ∷ rest)))
 
+-- an original and its traces are read
+reading_turns : (P : Turned → List ℕ → Plan → Type 0) (original : List ℕ) (names : List (List ℕ)) (word : ℕ) (next : Subject → List (List Edge) → Plan) → ((subject : Subject) (traces : List (List Edge)) → AllTurns P (next subject traces))
+    → AllTurns P (subject_part original word (λ subject. traces_part subject.digest names (word + 1) 0 (next subject)))
+unfolding AllTurns
+reading_turns P original names word next h =
+    λ bytes. checked_turns P (with_digest bytes (of_word word (elf Original bytes))) _ (λ subject. traces_turns P subject.digest names (word + 1) 0 (next subject) (h subject))
+
 merge_turns : (P : Turned → List ℕ → Plan → Type 0) (target original : List ℕ) (names : List (List ℕ)) → AllTurns P (merge_plan target original names)
 unfolding AllTurns
-merge_turns P target original names =
-    λ bytes. checked_turns P (with_digest bytes (of_word 2 (elf Original bytes))) _
-    (λ subject. traces_turns P subject.digest names 3 0 _ (λ traces. checked_turns P (limited (union_of traces)) _ (λ es. tt)))
+merge_turns P target original names = reading_turns P original names 2 _ (λ subject traces. checked_turns P (limited (union_of traces)) _ (λ es. tt))
+
+prints_turns : (P : Turned → List ℕ → Plan → Type 0) (text : List ℕ) (next : Plan) → AllTurns P next → AllTurns P (prints text next)
+unfolding AllTurns
+prints_turns P [] next h = h
+prints_turns P (b ∷ bs) next h = h
+
+show_turns : (P : Turned → List ℕ → Plan → Type 0) (original : List ℕ) (names : List (List ℕ)) → AllTurns P (show_plan original names)
+unfolding AllTurns
+show_turns P original names = reading_turns P original names 1 _
+    (λ subject traces. checked_turns P (limited_graph (graph_of subject.exe (union_of traces))) (listing_part subject.exe) (λ g. prints_turns P (listing subject.exe g) (Ends (Ok (shown_as (length g)))) tt))
 
 trace_turns : (P : Turned → List ℕ → Plan → Type 0) (steps : ℕ) (target original : List ℕ) (args : List (List ℕ)) (word : ℕ) → OfGuests P → AllTurns P (trace_plan steps target original args word)
 unfolding AllTurns NoInput
@@ -110,7 +128,7 @@ command_turns P (Ok (Builds name original traces)) word each = λ bytes. checked
 command_turns P (Ok (Runs steps name args)) word each = λ bytes. checked_turns P (of_word word (elf Guest bytes)) _ (λ exe. guest_turns P steps (beginning exe args) each)
 command_turns P (Ok (Traces steps target original args)) word each = trace_turns P steps target original args (word + 1) each
 command_turns P (Ok (Merges target original names)) word each = merge_turns P target original names
-command_turns P (Ok (Shows e ts)) word each = tt
+command_turns P (Ok (Shows original names)) word each = show_turns P original names
 command_turns P (Ok (Sessions e)) word each = tt
 command_turns P (Ok (Demos n)) word each = tt
 command_turns P (Err at) word each = tt

@@ -7,10 +7,10 @@ use Rattle.binrec.specs.Plans.Plan.{Plan, Went}
 use Rattle.binrec.specs.Plans.Happened.{TellsStop, Happened}
 use Rattle.binrec.specs.Plans.Told.{IsExact, IsComplete, HasCause}
 use Rattle.binrec.specs.Plans.Partial.{IsPartial}
-use Rattle.word_reader.specs.Words.{Asked, Builds, Traces, Runs, Merges}
+use Rattle.word_reader.specs.Words.{Asked, Builds, Traces, Runs, Merges, Shows}
 use Rattle.binrec.specs.Words.{asked_by, first_name}
 use Rattle.binrec.specs.Commands.{asked_plan, of_command, plan, run_plan, trace_plan}
-use Rattle.binrec.specs.Meaning.{MeansBuild, MeansRun, MeansMerge, MeansUsage}
+use Rattle.binrec.specs.Meaning.{MeansBuild, MeansRun, MeansMerge, MeansShow, MeansUsage}
 use Rattle.binrec.specs.TraceMeaning.{MeansTrace}
 use Rattle.binrec.specs.declared.acts.stop.Stop.{Stop}
 use Rattle.binrec.specs.declared.acts.stop.Stop.TheVariants.{Because}
@@ -22,6 +22,7 @@ use Rattle.binrec.proofs.Sparing.{sparing, taking}
 use Rattle.binrec.proofs.RunMeant.{means_run}
 use Rattle.binrec.proofs.TraceMeant.{means_trace}
 use Rattle.binrec.proofs.MergeMeant.{means_merge}
+use Rattle.binrec.proofs.ShowMeant.{means_show}
 use Rattle.binrec.proofs.Meanings.{Law, means_build, means_usage}
 
 pub no_command : (words : List (List ℕ)) (at : ℕ) (s : World) → asked_by words ≡ Err at → Went (plan words) s (Err (Because (Usage at))) s
@@ -56,6 +57,7 @@ pub record AllOf (words : List (List ℕ)) (s : World) (result : ℕ) (t : World
   pub trace : (steps : ℕ) (target original : List ℕ) (args : List (List ℕ)) → asked_by words ≡ Ok (Traces steps target original args) → MeansTrace steps target original args (first_name words + 1) s result t
   pub build : (name original : List ℕ) → asked_by words ≡ Ok (Builds name original []) → MeansBuild name original s result t
   pub merge : (target original : List ℕ) (names : List (List ℕ)) → asked_by words ≡ Ok (Merges target original names) → MeansMerge target original names s result t
+  pub show : (original : List ℕ) (names : List (List ℕ)) → asked_by words ≡ Ok (Shows original names) → MeansShow original names s result t
 
 pub all_of : (words : List (List ℕ)) (s : World) (result : ℕ) (t : World) → Law → Happened (plan words) s result t → AllOf words s result t
 all_of words s result t law h = record {
@@ -69,4 +71,5 @@ all_of words s result t law h = record {
   trace = λ steps target original args asked. means_trace words steps target original args s result t (exact (plan words) s result t (sparing words) h) asked;
   build = λ name original asked. means_build words name original s result t law h asked;
   merge = λ target original names asked. means_merge words target original names s result t h (exact (plan words) s result t (sparing words) h) asked;
+  show = λ original names asked. means_show words original names s result t h (exact (plan words) s result t (sparing words) h) asked;
 }

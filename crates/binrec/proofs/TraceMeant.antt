@@ -36,7 +36,7 @@ use Rattle.binrec.proofs.Turning.{same_stop}
 use Rattle.binrec.proofs.Ending.{ran_before}
 use Rattle.binrec.proofs.TourEnding.{last_rest, full_rest, tour_ends, tour_fills}
 use Rattle.binrec.proofs.RunMeant.{not_begun, has_shown}
-use Rattle.binrec.proofs.MergeMeant.{chosen}
+use Rattle.binrec.proofs.Reading.{chosen}
 
 -- the run of the original, and what is done with its trace
 abbrev toured_part : List ℕ → ℕ → List (List ℕ) → Subject → Plan

@@ -5,12 +5,15 @@ use Rattle.elf_read.specs.declared.exe.Reach.TheVariants.{Original}
 use Rattle.trace_file.specs.Edges.{Edge, union_of}
 use Rattle.trace_file.specs.Trace.{trace}
 use Rattle.binrec.specs.Plans.World.{World}
-use Rattle.binrec.specs.Plans.Plan.{Plan}
+use Rattle.binrec.specs.Plans.Plan.{Plan, Ends}
 use Rattle.binrec.specs.Plans.Parts.{checked}
 use Rattle.binrec.specs.Plans.Happened.{Happened}
 use Rattle.binrec.specs.Plans.Told.{NoInput}
-use Rattle.binrec.specs.Traces.{of_word, with_digest, edges_of_word, counted, traces_part, limited}
-use Rattle.binrec.specs.Commands.{store_part, merge_plan}
+use Rattle.flow_graph.specs.Made.{graph_of}
+use Rattle.binrec.specs.Traces.{of_word, with_digest, edges_of_word, counted, subject_part, traces_part, limited}
+use Rattle.binrec.specs.Listings.{listing, limited_graph, shown_as, prints, listing_part}
+use Rattle.binrec.specs.Commands.{store_part, merge_plan, show_plan}
+use Rattle.binrec.specs.declared.commands.original.Subject.{Subject}
 use Rattle.binrec.specs.declared.acts.stop.Cause.{Cause}
 use Rattle.binrec.proofs.Plans.Quiet.{input_stays}
 
@@ -30,7 +33,23 @@ traces_quiet digest [] word before next h = h []
 traces_quiet digest (name ∷ names) word before next h =
     λ bytes. checked_quiet (counted before (edges_of_word word (trace bytes digest))) _ (λ es. traces_quiet digest names (word + 1) (before + length es) (λ rest. next (es ∷ rest)) (λ rest. h (es ∷ rest)))
 
+-- an original and its traces are read
+reading_quiet : (original : List ℕ) (names : List (List ℕ)) (word : ℕ) (next : Subject → List (List Edge) → Plan) → ((subject : Subject) (traces : List (List Edge)) → NoInput (next subject traces))
+    → NoInput (subject_part original word (λ subject. traces_part subject.digest names (word + 1) 0 (next subject)))
+unfolding NoInput
+reading_quiet original names word next h =
+    λ bytes. checked_quiet (with_digest bytes (of_word word (elf Original bytes))) _ (λ subject. traces_quiet subject.digest names (word + 1) 0 (next subject) (h subject))
+
 pub merge_quiet : (target original : List ℕ) (names : List (List ℕ)) → NoInput (merge_plan target original names)
 unfolding NoInput
-merge_quiet target original names =
-    λ bytes. checked_quiet (with_digest bytes (of_word 2 (elf Original bytes))) _ (λ subject. traces_quiet subject.digest names 3 0 _ (λ traces. checked_quiet (limited (union_of traces)) (store_part target subject.digest) (λ es. tt)))
+merge_quiet target original names = reading_quiet original names 2 _ (λ subject traces. checked_quiet (limited (union_of traces)) (store_part target subject.digest) (λ es. tt))
+
+prints_quiet : (text : List ℕ) (next : Plan) → NoInput next → NoInput (prints text next)
+unfolding NoInput
+prints_quiet [] next h = h
+prints_quiet (b ∷ bs) next h = h
+
+pub show_quiet : (original : List ℕ) (names : List (List ℕ)) → NoInput (show_plan original names)
+unfolding NoInput
+show_quiet original names = reading_quiet original names 1 _
+    (λ subject traces. checked_quiet (limited_graph (graph_of subject.exe (union_of traces))) (listing_part subject.exe) (λ g. prints_quiet (listing subject.exe g) (Ends (Ok (shown_as (length g)))) tt))
