@@ -1,7 +1,8 @@
 //! A recompiler for static i386 executables.
 //!
 //! `build N E` reads the executable E and stores, as N, a file that does what E does. `run` and `trace` run an
-//! executable in a machine of the program's own, and `trace` and `merge` store the control-flow edges of runs.
+//! executable in a machine of the program's own, `trace` and `merge` store the control-flow edges of runs, and `show` lists
+//! the blocks that they have seen.
 #![tactic(auto)]
 
 mod acts;

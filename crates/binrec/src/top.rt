@@ -74,10 +74,11 @@ fn work<F: Shelf, I: Source, O: Sink, R: Sink>(
 /// | `trace [--steps K] T E WORD..` | runs E for at most K steps, and stores the edges of the steps as T | `exit S steps M undefined U edges P` |
 /// | `run [--steps K] E WORD..` | runs E for at most K steps | `exit S steps M undefined U` |
 /// | `merge T E T..` | stores the union of the later traces of E as the first T | `merged P` |
+/// | `show E T..` | prints the listing of the blocks that the traces of E have seen | `shown B`, B the number of blocks |
 ///
 /// A name is a text of 1 to 4096 bytes; at most 4096 traces are fetched. K is 1 to 18 decimal digits, and
 /// 100000000 where it is not given. A guest takes its input of `input`, prints on `out` and reports on
-/// `report`; `build` and `merge` take and print nothing. S is the guest's status, M the number of its
+/// `report`; `build`, `merge` and `show` take nothing, and of these `show` alone prints. S is the guest's status, M the number of its
 /// steps, U how many of them read a flag that was not defined, and P a number of edges.
 ///
 /// The last call gives the report line:
@@ -91,7 +92,7 @@ fn work<F: Shelf, I: Source, O: Sink, R: Sink>(
 /// | 4 | want of memory | `memory` |
 /// | 5 | the guest faulted | `fault KIND ADDRESS` and the counts of status 0 |
 /// | 6 | after K steps the guest still ran | `budget` and the counts of status 0 |
-/// | 7 | a limit is passed | `limit file 16777216` (268435456 for `run`), `limit edges 16777216` for all traces of `merge`, `limit union 2000000` for what is stored as a trace |
+/// | 7 | a limit is passed | `limit file 16777216` (268435456 for `run`), `limit edges 16777216` for all traces, `limit union 2000000` for what is stored as a trace, `limit blocks 65536` for `show` |
 ///
 /// The first cause in the order of the work decides: E comes before the traces, each file is fetched,
 /// measured, read and counted before the next, and a fault of an object stands at the call that met it. But
@@ -104,7 +105,7 @@ fn work<F: Shelf, I: Source, O: Sink, R: Sink>(
 /// and `complete`, over objects that tell what they hold the answer is the expected one, unless memory
 /// is wanting or an object fails; `partial`, what an interrupted command leaves is a front part of what the
 /// whole one does; `cause`, status 3 names an object whose count rose; `usage`, `build`, `run`,
-/// `trace` and `merge`, what the statuses mean.
+/// `trace`, `merge` and `show`, what the statuses mean.
 pub fn binrec<F: Shelf, I: Source, O: Sink, R: Sink>(
     alloc: Global,
     words: &[String],
