@@ -6,8 +6,8 @@
 set -u
 cd "$(dirname "$0")/.." || exit 2
 # What the whole program of today has, in the words of ../shared/check/compare.py: raise these when more is built.
-built_stage=traces
-built_commands=build0,run,trace,merge
+built_stage=graph
+built_commands=build0,run,trace,merge,show
 bad=0
 started=$SECONDS
 
