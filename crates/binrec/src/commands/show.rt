@@ -49,7 +49,7 @@ fn listing_of(alloc: Global, exe: &Exe, graph: &Graph) -> Result<String, Stop>
 {
     let mut text = String::new(alloc);
     for index in 0..graph.len() {
-        if show_block(exe, graph.start(index), graph.known(index), &mut text).is_err() {
+        if show_block(alloc, exe, graph.start(index), graph.known(index), &mut text).is_err() {
             return Err(Stop::Memory);
         }
     }
