@@ -1,10 +1,9 @@
 use Rattle.std.proofs.Common.{ℕ, List, map, string_bytes}
-use Rattle.br_outside.specs.Outside.{StreamView}
 use Rattle.elf_read.specs.declared.exe.Exe.{Exe}
 use Rattle.elf_read.proofs.Accepted.{original_is_guest}
 use Rattle.trace_file.specs.Edges.{Edge, union_of}
 use Rattle.flow_graph.specs.Made.{graph_of}
-use Rattle.binrec.specs.Plans.World.{World, world}
+use Rattle.binrec.specs.Plans.World.{world}
 use Rattle.binrec.specs.Plans.Plan.{Plan}
 use Rattle.binrec.specs.Plans.Parts.{checked}
 use Rattle.binrec.specs.Listings.{limited_graph, listing_part}
