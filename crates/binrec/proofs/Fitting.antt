@@ -89,6 +89,7 @@ Fit : Result Asked ℕ → Type 0
 Fit (Ok (Traces steps t e args)) = Fits steps args
 Fit (Ok (Runs steps e args)) = Fits steps args
 Fit (Ok (Merges t e names)) = length names ≤ 4096
+Fit (Ok (Shows e names)) = length names ≤ 4096
 Fit (Ok _) = Unit {0}
 Fit (Err at) = Unit {0}
 
@@ -124,10 +125,10 @@ unfolding Fit
 fit_args at steps words asked None fits is few = fits (record { fit = fit_words words is; few = few })
 fit_args at steps words asked (Some k) fits is few = tt
 
-fit_traces : (at : ℕ) (t e : List ℕ) (words : List (List ℕ)) (o : Option ℕ) → first_no_trace 0 words ≡ o → Fit (unless_wrong at o (Merges t e words))
+fit_traces : (at : ℕ) (words : List (List ℕ)) (asked : Asked) (o : Option ℕ) → (length words ≤ 4096 → Fit (Ok asked)) → first_no_trace 0 words ≡ o → Fit (unless_wrong at o asked)
 unfolding Fit
-fit_traces at t e words None is = (let few = few_traces 0 words is (lit≤ tt) in omega (arith, few))
-fit_traces at t e words (Some k) is = tt
+fit_traces at words asked None fits is = fits (let few = few_traces 0 words is (lit≤ tt) in omega (arith, few))
+fit_traces at words asked (Some k) fits is = tt
 
 abbrev NextSteps : Type 0
 NextSteps = ℕ → ℕ → List (List ℕ) → Result Asked ℕ
@@ -147,7 +148,7 @@ fit_build words = fit_name 1 words (λ n words. next_name 2 words (λ e words. t
 
 fit_merge : (words : List (List ℕ)) → Fit (merge_words words)
 unfolding Fit
-fit_merge words = fit_name 1 words (λ n words. next_name 2 words (λ e words. traces_at 3 words (Merges n e words))) (λ n words. fit_name 2 words (λ e words. traces_at 3 words (Merges n e words)) (λ e words. fit_traces 3 n e words (first_no_trace 0 words) refl))
+fit_merge words = fit_name 1 words (λ n words. next_name 2 words (λ e words. traces_at 3 words (Merges n e words))) (λ n words. fit_name 2 words (λ e words. traces_at 3 words (Merges n e words)) (λ e words. fit_traces 3 words (Merges n e words) (first_no_trace 0 words) (λ few. few) refl))
 
 fit_trace : (words : List (List ℕ)) → Fit (trace_words words)
 unfolding Fit
@@ -162,7 +163,7 @@ fit_run words = fit_steps words (λ steps at words. next_name at words (λ e wor
 
 fit_show : (words : List (List ℕ)) → Fit (show_words words)
 unfolding Fit
-fit_show words = fit_name 1 words (λ e words. traces_at 2 words (Shows e words)) (λ e words. fit_wrong 2 (first_no_trace 0 words) (Shows e words) tt)
+fit_show words = fit_name 1 words (λ e words. traces_at 2 words (Shows e words)) (λ e words. fit_traces 2 words (Shows e words) (first_no_trace 0 words) (λ few. few) refl)
 
 fit_session : (words : List (List ℕ)) → Fit (session_words words)
 unfolding Fit
@@ -192,7 +193,7 @@ read_as (Ok (Builds n e (t ∷ ts))) words asked h = absurd (let z : (let x : Re
 read_as (Ok (Traces k t e ts)) words asked h = h
 read_as (Ok (Runs k e ts)) words asked h = h
 read_as (Ok (Merges t e ts)) words asked h = h
-read_as (Ok (Shows e ts)) words asked h = absurd (let z : (let x : Result Asked ℕ = Err 0 in x) ≡ Ok asked = h in cc)
+read_as (Ok (Shows e ts)) words asked h = h
 read_as (Ok (Sessions e)) words asked h = absurd (let z : (let x : Result Asked ℕ = Err 0 in x) ≡ Ok asked = h in cc)
 read_as (Ok (Demos n)) words asked h = absurd (let z : (let x : Result Asked ℕ = Err 0 in x) ≡ Ok asked = h in cc)
 read_as (Err at) words asked h = absurd (cc)
@@ -200,7 +201,7 @@ read_as (Err at) words asked h = absurd (cc)
 fit_asked : (words : List (List ℕ)) (asked : Asked) → asked_by words ≡ Ok asked → Fit (Ok asked)
 fit_asked words asked is = subst Fit (read_as (command words) words asked is) (fit_command words)
 
--- what `run`, `trace` and `merge` are given
+-- what `run`, `trace`, `merge` and `show` are given
 pub asked_fits : (words : List (List ℕ)) (steps : ℕ) (e : List ℕ) (args : List (List ℕ)) → asked_by words ≡ Ok (Runs steps e args) → Fits steps args
 unfolding Fit
 asked_fits words steps e args is = fit_asked words (Runs steps e args) is
@@ -212,3 +213,7 @@ trace_fits words steps t e args is = fit_asked words (Traces steps t e args) is
 pub merge_fits : (words : List (List ℕ)) (t e : List ℕ) (names : List (List ℕ)) → asked_by words ≡ Ok (Merges t e names) → length names ≤ 4096
 unfolding Fit
 merge_fits words t e names is = fit_asked words (Merges t e names) is
+
+pub show_fits : (words : List (List ℕ)) (e : List ℕ) (names : List (List ℕ)) → asked_by words ≡ Ok (Shows e names) → length names ≤ 4096
+unfolding Fit
+show_fits words e names is = fit_asked words (Shows e names) is

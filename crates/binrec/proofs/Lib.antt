@@ -15,6 +15,7 @@ pub mod Runnings
 pub mod Ends
 pub mod Checking
 pub mod Merging
+pub mod Showing
 pub mod Touring
 pub mod Courses
 pub mod Meanings

@@ -1,13 +1,15 @@
 use Rattle.std.proofs.Common.{◌≡◌, ℕ, List, Result, Ok, Err, IsErrAnd, refl, sym, subst, inl, inr}
-use Rattle.br_outside.specs.Outside.{ShelfView, Fetched, Stored}
+use Rattle.br_outside.specs.Outside.{ShelfView, StreamView, Fetched, Stored, Gave}
 use Rattle.br_outside.specs.declared.errors.ShelfError.{ShelfError}
 use Rattle.br_outside.specs.declared.errors.StoreError.{StoreError}
-use Rattle.binrec.specs.Plans.World.{World, on_shelf}
-use Rattle.binrec.specs.Plans.Plan.{Plan, Ends, Fetches, Stores, Prints, Turns, Went, AfterFetch, AfterStore, planned_end}
+use Rattle.br_outside.specs.declared.errors.SinkError.{SinkError}
+use Rattle.binrec.specs.Plans.World.{World, on_shelf, on_out}
+use Rattle.binrec.specs.Plans.Plan.{Plan, Ends, Fetches, Stores, Prints, Turns, Went, AfterFetch, AfterStore, AfterGive, planned_end}
 use Rattle.binrec.specs.Plans.Texts.{Finished, End}
 use Rattle.binrec.specs.declared.acts.stop.Stop.{Stop}
 use Rattle.binrec.specs.declared.acts.stop.Stop.TheVariants.{Because, Outside, Memory}
 use Rattle.binrec.specs.declared.acts.stop.Cause.{Cause}
+use Rattle.binrec.specs.declared.acts.stop.Object.TheVariants as objects
 use Rattle.binrec.specs.Plans.Parts.{checked, Checks, ChecksErr, Goes}
 use Rattle.std.proofs.lemmas.Result.{err_from_is_err_and}
 
@@ -19,6 +21,10 @@ fetched name limit next s v answer o t was after = inr (v, answer, was, after)
 pub stored : (name bytes : List ℕ) (next : Plan) (s : World) (v : ShelfView) (answer : Result (Unit {0}) StoreError) (o : End) (t : World) → Stored name bytes answer s.shelf v → AfterStore (Went next) answer (on_shelf s v) o t → Went (Stores name bytes next) s o t
 unfolding Went
 stored name bytes next s v answer o t was after = inr (v, answer, was, after)
+
+pub printed : (text : List ℕ) (next : Plan) (s : World) (v : StreamView) (answer : Result (Unit {0}) SinkError) (o : End) (t : World) → Gave text answer s.out v → AfterGive objects.Output (Went next) answer (on_out s v) o t → Went (Prints text next) s o t
+unfolding Went
+printed text next s v answer o t was after = inr (v, answer, was, after)
 
 -- memory may be wanting before any call
 pub runs_out : (plan : Plan) (s : World) → Went plan s (Err Memory) s

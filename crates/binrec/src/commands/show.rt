@@ -1,5 +1,5 @@
 //! `show E T..`: the listing of the blocks that traces have seen.
-ghost use Rattle.std.specs.Prelude.{◌≡◌, ◌≤◌, Ok, IfOk, length, map, string_bytes};
+ghost use Rattle.std.specs.Prelude.{◌≤◌, Ok, IfOk, length, map, string_bytes};
 ghost use Rattle.elf_read.specs.Elf.{IsGuest};
 ghost use Rattle.br_outside.specs.Outside.{StreamView};
 ghost use Rattle.trace_file.specs.Edges.{pairs, union_of};
@@ -19,7 +19,7 @@ use br_outside::{Shelf, Sink};
 use elf_read::Exe;
 use flow_graph::{Graph, GraphError, one_graph};
 use show_text::show_block;
-use std::alloc::{AllocError, Global};
+use std::alloc::Global;
 use trace_file::{Edges, union_all};
 
 /// The graph of an original and the union of its traces. The error is the limit on its blocks, or want of
@@ -49,7 +49,15 @@ fn listing_of(alloc: Global, exe: &Exe, graph: &Graph) -> Result<String, Stop>
 {
     let mut text = String::new(alloc);
     for index in 0..graph.len() {
-        if show_block(exe, graph.start(index), graph.known(index), &mut text).is_err() {
+        if show_block(
+            alloc,
+            exe,
+            graph.start(index),
+            graph.known(index),
+            &mut text,
+        )
+        .is_err()
+        {
             return Err(Stop::Memory);
         }
     }

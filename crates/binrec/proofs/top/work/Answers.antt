@@ -1,11 +1,11 @@
 use Rattle.std.proofs.Common.{map, string_bytes, Ok, ap, ◌∙◌, arith}
 use Rattle.std.proofs.lemmas.List.{length-map}
 use Rattle.word_reader.specs.Reads.{asked_of}
-use Rattle.word_reader.specs.Words.{Builds, Merges}
+use Rattle.word_reader.specs.Words.{Builds, Merges, Shows}
 use Rattle.binrec.specs.Plans.World.{world}
 use Rattle.binrec.specs.Commands.{end_of}
 use Rattle.binrec.proofs.Tops.{no_command, asked_for, run_for, trace_for}
-use Rattle.binrec.proofs.Fitting.{asked_fits, trace_fits, merge_fits}
+use Rattle.binrec.proofs.Fitting.{asked_fits, trace_fits, merge_fits, show_fits}
 use Rattle.binrec.proofs.top.work.Goals as goal
 
 pub run_command-requires-clause-fit : goal.run_command-requires-clause-fit
@@ -24,6 +24,11 @@ pub merge_command-requires : goal.merge_command-requires
 merge_command-requires g c =
     let few = merge_fits (map string_bytes c.args.words.now) c.in-Ok-Merge.t.now c.in-Ok-Merge.e.now (map string_bytes c.in-Ok-Merge.traces.now) (c.in-Ok-Merge.ensures ∙ ap (λ x. Ok (asked_of x)) c.in-Ok-Merge.field-0-is) in
     omega (arith, few, length-map c.in-Ok-Merge.traces.now string_bytes)
+
+pub show_command-requires : goal.show_command-requires
+show_command-requires g c =
+    let few = show_fits (map string_bytes c.args.words.now) c.in-Ok-Show.e.now (map string_bytes c.in-Ok-Show.traces.now) (c.in-Ok-Show.ensures ∙ ap (λ x. Ok (asked_of x)) c.in-Ok-Show.field-0-is) in
+    omega (arith, few, length-map c.in-Ok-Show.traces.now string_bytes)
 
 pub returns-in-Ok-Build : goal.returns-in-Ok-Build
 returns-in-Ok-Build g c =
@@ -48,6 +53,12 @@ returns-in-Ok-Trace g c =
     let s = world (g.F.Shelf.seen c.args.shelf.now) (g.I.Source.seen c.args.input.now) (g.O.Sink.seen c.args.out.now) (g.R.Sink.seen c.args.report.now) in
     let t = world (g.F.Shelf.seen c.trace_command.new.shelf) (g.I.Source.seen c.trace_command.new.input) (g.O.Sink.seen c.trace_command.new.out) (g.R.Sink.seen c.trace_command.new.report) in
     trace_for (map string_bytes c.args.words.now) c.in-Ok-Trace.steps c.in-Ok-Trace.t.now c.in-Ok-Trace.e.now (map string_bytes c.in-Ok-Trace.args.now) c.first_name-first.result s (end_of c.trace_command.result) t (c.in-Ok-Trace.ensures ∙ ap (λ x. Ok (asked_of x)) c.in-Ok-Trace.field-0-is) c.first_name-first.ensures c.trace_command.ensures
+
+pub returns-in-Ok-Show : goal.returns-in-Ok-Show
+returns-in-Ok-Show g c =
+    let s = world (g.F.Shelf.seen c.args.shelf.now) (g.I.Source.seen c.args.input.now) (g.O.Sink.seen c.args.out.now) (g.R.Sink.seen c.args.report.now) in
+    let t = world (g.F.Shelf.seen c.show_command.new.shelf) (g.I.Source.seen c.args.input.now) (g.O.Sink.seen c.show_command.new.out) (g.R.Sink.seen c.args.report.now) in
+    asked_for (map string_bytes c.args.words.now) (Shows c.in-Ok-Show.e.now (map string_bytes c.in-Ok-Show.traces.now)) s (end_of c.show_command.result) t (c.in-Ok-Show.ensures ∙ ap (λ x. Ok (asked_of x)) c.in-Ok-Show.field-0-is) (c.show_command.ensures (g.I.Source.seen c.args.input.now) (g.R.Sink.seen c.args.report.now))
 
 pub returns-in-Err : goal.returns-in-Err
 returns-in-Err g c = no_command (map string_bytes c.args.words.now) c.in-Err.at _ c.in-Err.ensures

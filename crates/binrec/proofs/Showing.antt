@@ -1,0 +1,45 @@
+-- Listings that are made and printed.
+use Rattle.std.proofs.Common.{◌≡◌, ℕ, ◌≤◌, true, false, ◌==◌, cond, List, [], ◌∷◌, length, Result, Ok, Err, refl, sym, subst, ap, ◌∙◌, arith}
+use Rattle.std.specs.Prelude.{nat_le}
+use Rattle.std.proofs.lemmas.Bool.Decides.{nat_tests}
+use Rattle.elf_read.specs.declared.exe.Exe.{Exe}
+use Rattle.elf_read.specs.Elf.{IsGuest}
+use Rattle.trace_file.specs.Edges.{Edge}
+use Rattle.flow_graph.specs.Graph.{Node, counting, IsGraph}
+use Rattle.flow_graph.specs.Made.{graph_of, OneGraph}
+use Rattle.binrec.specs.Plans.World.{World}
+use Rattle.binrec.specs.Plans.Texts.{End}
+use Rattle.binrec.specs.Plans.Plan.{Plan, Ends, Prints, Went}
+use Rattle.binrec.specs.Listings.{listing, limited_graph, shown_line, listing_part, prints}
+use Rattle.binrec.specs.Commands.{done_with}
+use Rattle.binrec.specs.declared.acts.stop.Cause.{Cause}
+use Rattle.binrec.specs.declared.acts.stop.Cause.TheVariants.{Limited}
+use Rattle.binrec.specs.declared.acts.stop.Limit.TheVariants as limits
+use Rattle.binrec.proofs.Plans.Runs.{ok_same}
+
+-- a graph of few blocks is the only one, and passes
+passes_limit : (g : List Node) → length g ≤ 65536 → limited_graph g ≡ Ok g
+passes_limit g few =
+    let small : nat_le (length g) 65536 ≡ true = grind (arith, nat_tests) in
+    ap (λ b. let r : Result (List Node) Cause = cond b (Ok g) (Err (Limited limits.Blocks)) in r) small
+
+pub is_limited : (exe : Exe) (edges es : List Edge) (g : List Node) → OneGraph → IsGuest exe → es ≡ edges → IsGraph exe (counting exe es) g → length g ≤ 65536 → limited_graph (graph_of exe edges) ≡ Ok g
+is_limited exe edges es g one guest is graph few =
+    ap (λ es. limited_graph (graph_of exe es)) (sym is)
+    ∙ ap limited_graph (sym (one.only exe es g guest graph))
+    ∙ passes_limit g few
+
+-- a text is printed
+pub prints_some : (text : List ℕ) (next : Plan) (s : World) (o : End) (t : World) → (length text == 0) ≡ false → Went (Prints text next) s o t → Went (prints text next) s o t
+prints_some [] next s o t some went = absurd (let z : true ≡ false = some in cc)
+prints_some (b ∷ bs) next s o t some went = went
+
+-- a listing is printed, and its line is made
+pub shown : (exe : Exe) (g : List Node) (text lent line : List ℕ) (count : ℕ) (s t : World) (o : End)
+    → (let r : Result (List ℕ) Cause = Ok (listing exe g) in r) ≡ Ok text → lent ≡ text → count ≡ length g
+    → (let r : Result (List ℕ) Cause = Ok (shown_line count) in r) ≡ Ok line
+    → Went (prints lent (Ends (Ok (done_with line)))) s o t → Went (listing_part exe g) s o t
+shown exe g text lent line count s t o listed same counted told went =
+    let P : List ℕ → Type 0 = λ text. Went (prints text (Ends (Ok (done_with line)))) s o t in
+    let Q : List ℕ → Type 0 = λ line. Went (prints (listing exe g) (Ends (Ok (done_with line)))) s o t in
+    subst Q (sym (ok_same _ line told) ∙ ap shown_line counted) (subst P (same ∙ sym (ok_same _ text listed)) went)
