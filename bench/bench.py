@@ -82,6 +82,8 @@ TABLES = [
     ("build, file", "byte", [1 << 16, 1 << 18, 1 << 20, 4 << 20, 16 << 20], large_file, ["build", "N", "E"]),
     ("build, memory", "byte", [1 << 20, 4 << 20, 16 << 20, 63 << 20], large_memory, ["build", "N", "E"]),
     ("trace, functions", "function", [250, 1000, 4000, 16000], many_functions, ["trace", "T", "E"]),
+    ("merge, functions", "function", [250, 1000, 4000, 16000], many_functions, ["merge", "M", "E", "T", "T", "T"]),
+    ("show, functions", "function", [250, 1000, 4000, 16000], many_functions, ["show", "E", "T"]),
     ("build, functions", "function", [250, 1000, 4000, 16000], many_functions, ["build", "N", "E", "T"]),
 ]
 
@@ -110,6 +112,13 @@ def call(program, words, folder):
 
 def knows(program, command, folder):
     return call(program, [command], folder)[3] != "usage 0"
+
+
+def takes(program, words, folder):
+    """Whether the command is there, with the traces that it is given."""
+    if words[0] == "build" and len(words) > 3 and call(program, words, folder)[3] == "usage 3":
+        return False
+    return knows(program, words[0], folder)
 
 
 def knows_all_instructions(program, folder):
@@ -158,7 +167,7 @@ def table(entry, sides, repeat):
     for size in sizes:
         write_file([os.path.join(folder, "E") for _, folder in sides], make, size)
         for program, folder in sides:
-            if "T" in words and words[0] == "build":
+            if "T" in words and words[0] != "trace":
                 call(program, ["trace", "T", "E"], folder)
         good = compare(unit, size, sides, words, repeat) and good
     return good
@@ -187,7 +196,7 @@ def main():
             words = entry[4]
             if a.only not in entry[0]:
                 continue
-            if not all(knows(program, words[0], folder) for program, folder in sides) or words == ["build", "N", "E", "T"] and not knows(program, "trace", sides[0][1]):
+            if not all(takes(program, words, folder) for program, folder in sides):
                 print(f"skipped: {entry[0]}: no such command yet")
             elif words[0] != "build" and not knows_all_instructions(*sides[0]) and words != LARGE:
                 print(f"skipped: {entry[0]}: the program does not know the whole instruction table yet")
