@@ -88,6 +88,10 @@ pub record MeansUsage (words : List (List ℕ)) (s : World) (result : ℕ) (t : 
   pub status : (at : ℕ) → asked_by words ≡ Err at → (result ≡ 1) ⊎ ((result ≡ 4) ⊎ ((result ≡ 3) × HasFailed objects.Report s t))
   pub alone : (at : ℕ) → asked_by words ≡ Err at → (t.shelf ≡ s.shelf) × (t.input ≡ s.input) × (t.out ≡ s.out)
 
+-- unless memory is wanting or an object fails
+abbrev pub UnlessBroken : Type 0 → World → ℕ → World → Type 0
+UnlessBroken Done s result t = (result ≡ 4) ⊎ (((result ≡ 3) × (x : Object) × HasFailed x s t) ⊎ Done)
+
 -- ---- run
 
 -- What a run of at most n steps from an opening has done where nothing failed, by its state at the end. Of the input a read that faults may have taken more.
@@ -120,7 +124,7 @@ RunsContent n args word left (Some content) s result t = (length content ≤ 268
 -- What `run` does over a shelf and an input that tell, unless memory is wanting or an object fails: `word` is the position of the word of the file.
 abbrev pub MeansRun : ℕ → List ℕ → List (List ℕ) → ℕ → World → ℕ → World → Type 0
 MeansRun n name args word s result t = (files : Files) (left : List ℕ) → s.shelf.files ≡ Some files → s.input.bytes ≡ Some left →
-    (result ≡ 4) ⊎ (((result ≡ 3) × (x : Object) × HasFailed x s t) ⊎ RunsContent n args word left (files name) s result t)
+    UnlessBroken (RunsContent n args word left (files name) s result t) s result t
 
 -- ---- traces that are read
 
@@ -150,10 +154,6 @@ abbrev pub ReadsContent : (Exe → List ℕ → List (List Edge) → Type 0) →
 ReadsContent last names word None files s result t = OnlySays 3 (object_text objects.Shelf) s result t
 ReadsContent last names word (Some content) files s result t = (length content ≤ 16777216 → ReadsExe last names word content (elf Original content) files s result t)
     × (16777216 < length content → OnlySays 7 (cause_text (Limited (limits.File 16777216))) s result t)
-
--- unless memory is wanting or an object fails
-abbrev pub UnlessBroken : Type 0 → World → ℕ → World → Type 0
-UnlessBroken Done s result t = (result ≡ 4) ⊎ (((result ≡ 3) × (x : Object) × HasFailed x s t) ⊎ Done)
 
 -- ---- merge
 

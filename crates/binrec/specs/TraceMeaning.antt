@@ -1,5 +1,5 @@
 -- What `trace` does, in a user's words.
-use Rattle.std.specs.Prelude.{◌≡◌, ◌⊎◌, ◌<◌, ◌≤◌, ◌+◌, ℕ, List, [], ◌++◌, length, Option, Some, None, Result, Ok, Err}
+use Rattle.std.specs.Prelude.{◌≡◌, ◌<◌, ◌≤◌, ◌+◌, ℕ, List, [], ◌++◌, length, Option, Some, None, Result, Ok, Err}
 use Rattle.std.specs.Option.{option_map}
 use Rattle.br_outside.specs.Files.{Files, put}
 use Rattle.elf_read.specs.Elf.{elf, Refused}
@@ -15,12 +15,11 @@ use Rattle.tracer.specs.Tour.{edge_limit}
 use Rattle.tracer.specs.Told.{edges_in}
 use Rattle.binrec.specs.Plans.World.{World}
 use Rattle.binrec.specs.Plans.Texts.{cause_text, object_text, finish_status}
-use Rattle.binrec.specs.Plans.Told.{HasFailed, LeavesBut}
+use Rattle.binrec.specs.Plans.Told.{LeavesBut}
 use Rattle.binrec.specs.Guests.{finish_of}
 use Rattle.binrec.specs.Tours.{traced_line}
-use Rattle.binrec.specs.Meaning.{Says, Unstored, OnlySays}
+use Rattle.binrec.specs.Meaning.{Says, Unstored, OnlySays, UnlessBroken}
 use Rattle.binrec.specs.declared.acts.stop.Cause.TheVariants.{RefusedWord, Limited}
-use Rattle.binrec.specs.declared.acts.stop.Object.{Object}
 use Rattle.binrec.specs.declared.acts.stop.Object.TheVariants as objects
 use Rattle.binrec.specs.declared.acts.stop.Limit.TheVariants as limits
 
@@ -69,4 +68,4 @@ TracesContent target n args word left (Some content) files s result t = (length 
 -- What `trace` does over a shelf and an input that tell, unless memory is wanting or an object fails: `word` is the position of the word of the original.
 abbrev pub MeansTrace : ℕ → List ℕ → List ℕ → List (List ℕ) → ℕ → World → ℕ → World → Type 0
 MeansTrace n target original args word s result t = (files : Files) (left : List ℕ) → s.shelf.files ≡ Some files → s.input.bytes ≡ Some left →
-    (result ≡ 4) ⊎ (((result ≡ 3) × (x : Object) × HasFailed x s t) ⊎ TracesContent target n args word left (files original) files s result t)
+    UnlessBroken (TracesContent target n args word left (files original) files s result t) s result t

@@ -145,6 +145,7 @@ fn long_trace(alloc: Global, start: u32, count: u32) -> Result<Vec<u8>, AllocErr
     Ok(file)
 }
 
+// Nine files of 16 MB: under `rt try` it wants `--seconds 600`.
 #[test]
 fn limits_the_edges(rt: HostRuntime) -> Result<(), Fail> {
     let alloc = rt.alloc();
