@@ -6,7 +6,7 @@ use Rattle.ia_inst.specs.Step.{step}
 use Rattle.br_outside.specs.Files.{Files}
 use Rattle.guest_sys.specs.Calls.{spare}
 use Rattle.guest_sys.specs.Machine.{fed, bare}
-use Rattle.guest_run.specs.Run.{run}
+use Rattle.run_model.specs.Run.{run}
 use Rattle.guest_run.specs.Guest.{GuestView, while_running, steps_taken, undefined_taken, reads_undefined, ahead, asks_next}
 use Rattle.guest_run.proofs.Composed.{running_some, run_none, steps_none, undefined_none, steps_first, undefined_first}
 use Rattle.guest_run.proofs.Shown.{shown, run_shown, steps_shown, undefined_shown, ahead_shown, shown_bare}

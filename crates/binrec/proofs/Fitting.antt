@@ -4,7 +4,7 @@ use Rattle.std.proofs.lemmas.Bool.{leb-true, leb-false, ltb-false}
 use Rattle.std.proofs.Math.Nat.{mul-le-mul_right, pow-succ', pow-le-pow_right, mul_assoc}
 use Rattle.std.specs.Str.{bytes_eq}
 use Rattle.std.specs.Int.Digits.{number_from_digits_after}
-use Rattle.guest_run.specs.Opening.{FitArguments, texts, arguments}
+use Rattle.run_model.specs.Opening.{FitArguments, texts, arguments}
 use Rattle.word_reader.specs.Numbers.{are_digits, is_digit, number_of_digits, number_in}
 use Rattle.word_reader.specs.Words.{Asked, Builds, Traces, Runs, Merges, Shows, Sessions, Demos, is_name, next_name, no_more, unless_wrong, or_wrong, first_no_argument, first_no_trace, traces_at, arguments_at, own_bytes, steps_behind, next_steps, build_words, trace_words, run_words, merge_words, show_words, session_words, demo_words, demo_count, command}
 use Rattle.binrec.specs.Words.{built_command, asked_by}

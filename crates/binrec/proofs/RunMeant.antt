@@ -8,8 +8,8 @@ use Rattle.br_outside.specs.Files.{Files}
 use Rattle.elf_read.specs.Elf.{elf, Refused}
 use Rattle.elf_read.specs.declared.exe.Exe.{Exe}
 use Rattle.elf_read.specs.declared.exe.Reach.TheVariants.{Guest}
-use Rattle.guest_run.specs.Opening.{opening, arguments}
-use Rattle.guest_run.specs.Run.{run}
+use Rattle.run_model.specs.Opening.{opening, arguments}
+use Rattle.run_model.specs.Run.{run}
 use Rattle.guest_run.specs.Guest.{beginning, ahead, while_running, steps_taken, undefined_taken}
 use Rattle.word_reader.specs.Words.{Asked, Runs}
 use Rattle.binrec.specs.Words.{asked_by, first_name}

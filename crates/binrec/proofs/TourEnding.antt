@@ -4,7 +4,7 @@ use Rattle.br_word.specs.State.{State, Running}
 use Rattle.ia_inst.specs.Step.{step}
 use Rattle.br_outside.specs.Files.{Files}
 use Rattle.guest_sys.specs.Machine.{fed}
-use Rattle.guest_run.specs.Edges.{edge_of, edges_from}
+use Rattle.run_model.specs.Edges.{edge_of, edges_from}
 use Rattle.guest_run.specs.Guest.{GuestView, answer_of}
 use Rattle.trace_file.specs.Edges.{Edge, collected}
 use Rattle.tracer.specs.declared.answers.Traced.{Traced}

@@ -7,8 +7,8 @@ use Rattle.elf_read.specs.Elf.{elf, Refused}
 use Rattle.elf_read.specs.declared.exe.Exe.{Exe}
 use Rattle.elf_read.specs.declared.exe.Reach.TheVariants.{Original}
 use Rattle.sha2.specs.Sha256.{sha256}
-use Rattle.guest_run.specs.Opening.{opening, arguments}
-use Rattle.guest_run.specs.Run.{run}
+use Rattle.run_model.specs.Opening.{opening, arguments}
+use Rattle.run_model.specs.Run.{run}
 use Rattle.guest_run.specs.Guest.{beginning, answer_of, stop_of, steps_taken, undefined_taken}
 use Rattle.trace_file.specs.Trace.{trace_bytes}
 use Rattle.tracer.specs.declared.answers.Traced.{Traced}

@@ -16,8 +16,8 @@ use Rattle.flow_graph.specs.Made.{graph_of}
 use Rattle.sim_laws.specs.Preserves.{Preserves}
 use Rattle.binrec.specs.Plans.World.{World}
 use Rattle.br_word.specs.State.{State}
-use Rattle.guest_run.specs.Opening.{opening, arguments}
-use Rattle.guest_run.specs.Run.{run}
+use Rattle.run_model.specs.Opening.{opening, arguments}
+use Rattle.run_model.specs.Run.{run}
 use Rattle.guest_run.specs.Guest.{ahead, steps_taken, undefined_taken}
 use Rattle.binrec.specs.Guests.{finish_of, last_line}
 use Rattle.binrec.specs.Plans.Texts.{cause_text, object_text, finish_status}

@@ -15,9 +15,9 @@ use Rattle.elf_read.specs.declared.exe.Segment.{Segment}
 use Rattle.elf_read.specs.declared.exe.Exe.{Exe}
 use Rattle.elf_read.specs.declared.exe.Reach.TheVariants.{Guest}
 use Rattle.elf_read.specs.Elf.{elf}
-use Rattle.guest_mem.specs.Regions.{region_of}
-use Rattle.guest_run.specs.Opening.{arguments, opening, opening_of, exe_or_none}
-use Rattle.guest_run.specs.Run.{observed, observed_of, first_choice, run, WellDefined, IsWellDefinedRun}
+use Rattle.elf_read.specs.Regions.{region_of}
+use Rattle.run_model.specs.Opening.{arguments, opening, opening_of, exe_or_none}
+use Rattle.run_model.specs.Run.{observed, observed_of, first_choice, run, WellDefined, IsWellDefinedRun}
 use Rattle.elf_write.specs.File.{file_of}
 use Rattle.sim_laws.specs.Preserves.{Preserves, ShowsAt}
 use Rattle.sim_laws.proofs.Widen.{AllLow, AllHigh, widen, IsHigh, run_more}

@@ -1,3 +1,4 @@
 pub mod Elf
 pub mod Reads
 pub mod Code
+pub mod Regions

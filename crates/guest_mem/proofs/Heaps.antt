@@ -6,7 +6,7 @@ use Rattle.br_word.specs.Memory.{Region, resized, zeros}
 use Rattle.elf_read.specs.declared.exe.Segment.{Segment}
 use Rattle.elf_read.specs.declared.exe.Exe.{Exe}
 use Rattle.elf_read.specs.Elf.{AreSegments, Ascend, end_of_last, IsGuest}
-use Rattle.guest_mem.specs.Regions.{region_of, stack_region, heap_region, opening_regions}
+use Rattle.elf_read.specs.Regions.{region_of, stack_region, heap_region, opening_regions}
 use Rattle.guest_mem.specs.View.{in_reach}
 use Rattle.guest_mem.proofs.Numbers.{length-cut}
 use Rattle.guest_mem.specs.Layout.{IsHeapLast, HasSize, HasHeap}

@@ -7,7 +7,7 @@ use Rattle.br_word.specs.Memory.{Region, Writes, Runs, covers, bytes_at, put_ove
 use Rattle.elf_read.specs.declared.exe.Segment.{Segment}
 use Rattle.elf_read.specs.declared.exe.Exe.{Exe}
 use Rattle.elf_read.specs.Elf.{AreSegments, Ascend, end_of_last, round_up, IsGuest}
-use Rattle.guest_mem.specs.Regions.{region_of, stack_with, stack_region, heap_region, opening_regions}
+use Rattle.elf_read.specs.Regions.{region_of, stack_with, stack_region, heap_region, opening_regions}
 use Rattle.guest_mem.specs.Layout.{is_usable, Shape, shape_of, data_at, segment_shape, shapes_of, KeepsCode, NoneAt, StartsDiffer}
 use Rattle.guest_mem.proofs.Places.{and_left, and_right, covers-bounds}
 use Rattle.guest_mem.proofs.Numbers.{length-zeros, length-cut, length-put_over}

@@ -3,7 +3,7 @@
 ghost use Rattle.std.specs.Prelude.{◌≡◌, ◌+◌, ◌-◌, ◌^◌, ◌<◌, ◌≤◌, ◌++◌, true, length, take, drop, IfOk, OnOk, OnErr};
 ghost use Rattle.br_word.specs.Words.{bits_of, size_of};
 ghost use Rattle.br_word.specs.Memory.{covers, put_over, number_of, zeros};
-ghost use Rattle.guest_mem.specs.Regions.{region_of, stack_region, heap_region};
+ghost use Rattle.elf_read.specs.Regions.{region_of, stack_region, heap_region};
 
 use br_word::{Perms, Width};
 use elf_read::Segment;

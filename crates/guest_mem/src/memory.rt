@@ -5,7 +5,7 @@ ghost use Rattle.std.specs.List.{position};
 ghost use Rattle.br_word.specs.Words.{bits_of, size_of};
 ghost use Rattle.br_word.specs.Memory.{Reads, Writes, Runs, bytes_at, written, load, store};
 ghost use Rattle.elf_read.specs.Elf.{IsGuest};
-ghost use Rattle.guest_mem.specs.Regions.{opening_regions};
+ghost use Rattle.elf_read.specs.Regions.{opening_regions};
 ghost use Rattle.guest_mem.specs.Layout.{is_usable};
 ghost use Rattle.guest_mem.specs.View.{with_regions, fetched, with_break};
 

@@ -26,7 +26,7 @@ use Rattle.guest_sys.specs.Calls.{Passes}
 use Rattle.guest_sys.proofs.Done.{had, told_had, leaves_same, gains_none}
 use Rattle.guest_run.specs.declared.stop.Stop.TheVariants as answers
 use Rattle.guest_run.specs.declared.advance.Advanced.{Advanced}
-use Rattle.guest_run.specs.Edges.{Edge, edge_by, is_transfer}
+use Rattle.run_model.specs.Edges.{Edge, edge_by, is_transfer}
 use Rattle.guest_run.specs.Guest.{first_edge, is_trap}
 use Rattle.guest_run.specs.Advance.{Expected, Advances, AdvanceGives, Advance, Trap, of_call, IsFound, edge_if}
 use Rattle.guest_run.proofs.NoCall.{called_traps}

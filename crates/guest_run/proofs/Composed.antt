@@ -10,8 +10,8 @@ use Rattle.guest_sys.specs.Machine.{fed, bare}
 use Rattle.guest_sys.specs.Calls.{spare, Passes}
 use Rattle.guest_sys.proofs.Taken.{steady_then}
 use Rattle.guest_run.specs.declared.stop.Stop as answer
-use Rattle.guest_run.specs.Edges.{Edge, edge_of}
-use Rattle.guest_run.specs.Run.{run}
+use Rattle.run_model.specs.Edges.{Edge, edge_of}
+use Rattle.run_model.specs.Run.{run}
 use Rattle.guest_run.specs.Guest.{GuestView, first_edge, reads_undefined, asks_next, ahead, stepped, while_running, steps_taken, undefined_taken, edge_after, answer_of, RunDone, AllSteady}
 use Rattle.guest_run.proofs.Shown.{shown, ahead_shown, shown_bare, run_shown, steps_shown, undefined_shown, edge_shown}
 

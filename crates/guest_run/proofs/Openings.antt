@@ -2,7 +2,7 @@
 use Rattle.std.proofs.Common.{◌≡◌, ℕ, ◌+◌, ◌-◌, ◌*◌, ◌/◌, ◌≤◌, List, [], ◌∷◌, ◌++◌, length, refl, arith, length-append}
 use Rattle.br_word.specs.Memory.{bytes_of, zeros}
 use Rattle.guest_mem.proofs.Numbers.{length-zeros}
-use Rattle.guest_run.specs.Opening.{texts, arguments, text_places, first_text, stack_pointer, stack_words, stack_top, FitArguments}
+use Rattle.run_model.specs.Opening.{texts, arguments, text_places, first_text, stack_pointer, stack_words, stack_top, FitArguments}
 
 length-word : (n : ℕ) → length (bytes_of 4 n) ≡ 4
 unfolding bytes_of

@@ -10,8 +10,8 @@ use Rattle.ia_inst.specs.Step.{Found, NoCode, NoInst, There, found, act_of, way_
 use Rattle.ia_meaning.specs.Effect.{some_unmarked}
 use Rattle.guest_sys.specs.Calls.{spare}
 use Rattle.guest_sys.specs.Machine.{fed, bare}
-use Rattle.guest_run.specs.Edges.{Edge, edge_by, edge_at, edge_of, is_transfer}
-use Rattle.guest_run.specs.Run.{run}
+use Rattle.run_model.specs.Edges.{Edge, edge_by, edge_at, edge_of, is_transfer}
+use Rattle.run_model.specs.Run.{run}
 use Rattle.guest_run.specs.Guest.{first_edge, reads_undefined, traps, asks_by, ahead, while_running, steps_taken, undefined_taken, edge_after}
 
 -- the state with these bytes written before

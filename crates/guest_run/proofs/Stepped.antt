@@ -11,7 +11,7 @@ use Rattle.guest_sys.proofs.Done.{had, told_had}
 use Rattle.guest_run.specs.declared.stop.Stop as answer
 use Rattle.guest_run.specs.declared.stop.Stop.TheVariants as answers
 use Rattle.guest_run.specs.declared.advance.Advanced.{Advanced}
-use Rattle.guest_run.specs.Edges.{Edge, edge_by, edge_at, is_transfer}
+use Rattle.run_model.specs.Edges.{Edge, edge_by, edge_at, is_transfer}
 use Rattle.guest_run.specs.Guest.{GuestView, view_of, stop_of, answer_of, first_edge, stepped, Steps}
 use Rattle.guest_run.proofs.Ways.{way_done, few_ahead}
 use Rattle.guest_run.specs.Advance.{Advance, edge_by_found}

@@ -5,7 +5,7 @@ use Rattle.std.proofs.lemmas.List.{take_all, length-map}
 use Rattle.std.proofs.lemmas.List.Concat.{flat_map-cons}
 use Rattle.std.proofs.lemmas.List.Sums.{sum_by-cons}
 use Rattle.std.proofs.lemmas.Bool.Decides.{nat_tests}
-use Rattle.guest_run.specs.Opening.{texts, arguments, FitArguments}
+use Rattle.run_model.specs.Opening.{texts, arguments, FitArguments}
 
 -- a text and its zero byte
 abbrev pub room_of : List ℕ → ℕ

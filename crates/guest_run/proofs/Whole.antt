@@ -13,7 +13,7 @@ use Rattle.guest_sys.proofs.Taken.{steady_same, steady_then, fails_then}
 use Rattle.guest_sys.proofs.Done.{leaves_same, gains_none}
 use Rattle.guest_run.specs.declared.stop.Stop as answer
 use Rattle.guest_run.specs.declared.stop.Stop.TheVariants as answers
-use Rattle.guest_run.specs.Run.{run}
+use Rattle.run_model.specs.Run.{run}
 use Rattle.guest_run.specs.Guest.{GuestView, stop_of, asks_next, ahead, stepped, answer_of, StepDone, Steps, PartGiven, Unchanged, RunFailsAt, RunFailed, RunGives, AllSteady, OneFails, EndGives, Runs}
 use Rattle.guest_run.proofs.Shown.{shown, shown_bare, run_shown, step_shown}
 use Rattle.guest_run.proofs.Composed.{left_then, leaves_then, given_then, gains_then, steady_of, run_none, steps_none, undefined_none, edge_none, run_more}

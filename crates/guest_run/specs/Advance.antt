@@ -13,7 +13,7 @@ use Rattle.guest_sys.specs.Calls.{takes_memory, spare, Passes, FailsAt}
 use Rattle.guest_run.specs.declared.advance.Advanced.{Advanced}
 use Rattle.guest_run.specs.declared.advance.Code.{Code}
 use Rattle.guest_run.specs.declared.advance.Code.TheVariants as code
-use Rattle.guest_run.specs.Edges.{Edge, edge_by, is_transfer}
+use Rattle.run_model.specs.Edges.{Edge, edge_by, is_transfer}
 use Rattle.guest_run.specs.Guest.{first_edge, traps_at, asks_by, answer_of}
 
 -- what stands at an address, as the code has it

@@ -16,9 +16,9 @@ use Rattle.guest_sys.specs.Machine.{state_of, fed, bare}
 use Rattle.guest_sys.specs.Calls.{asks, takes_memory, spare, Passes, FailsAt}
 use Rattle.guest_run.specs.declared.stop.Stop as answer
 use Rattle.guest_run.specs.declared.stop.Stop.TheVariants as answers
-use Rattle.guest_run.specs.Edges.{Edge, edge_of}
-use Rattle.guest_run.specs.Run.{run}
-use Rattle.guest_run.specs.Opening.{arguments, opening}
+use Rattle.run_model.specs.Edges.{Edge, edge_of}
+use Rattle.run_model.specs.Run.{run}
+use Rattle.run_model.specs.Opening.{arguments, opening}
 use Rattle.elf_read.specs.declared.exe.Exe.{Exe}
 
 pub record GuestView : Type 0 where

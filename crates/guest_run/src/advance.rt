@@ -4,7 +4,7 @@ ghost use Rattle.ia_inst.specs.Instructions.{decode_of};
 ghost use Rattle.ia_inst.specs.Canonical.{valid_of};
 ghost use Rattle.ia_inst.specs.Step.{There, found};
 ghost use Rattle.guest_sys.specs.Machine.{machine};
-ghost use Rattle.guest_run.specs.Edges.{is_transfer};
+ghost use Rattle.run_model.specs.Edges.{is_transfer};
 ghost use Rattle.guest_run.specs.Advance.{IsFound, Advance, Trap, edge_if};
 
 use crate::stop::Stop;

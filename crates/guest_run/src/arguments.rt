@@ -1,6 +1,6 @@
 //! What a guest can be given.
 ghost use Rattle.std.specs.Prelude.{IsTrue, ◌↔◌, map, string_bytes};
-ghost use Rattle.guest_run.specs.Opening.{FitArguments};
+ghost use Rattle.run_model.specs.Opening.{FitArguments};
 
 /// Whether a guest can be given these words: at most 256, and at most 65536 bytes with the argument
 /// `guest` before them and a zero byte behind each.

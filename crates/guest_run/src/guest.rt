@@ -3,7 +3,7 @@ ghost use Rattle.std.specs.Prelude.{◌≡◌, ◌+◌, ◌<◌, ◌≤◌, ◌^
 ghost use Rattle.elf_read.specs.Elf.{IsGuest};
 ghost use Rattle.br_word.specs.State.{all_flags};
 ghost use Rattle.guest_sys.specs.Streams.{Streams};
-ghost use Rattle.guest_run.specs.Opening.{FitArguments};
+ghost use Rattle.run_model.specs.Opening.{FitArguments};
 ghost use Rattle.guest_run.specs.Guest.{Steps, Runs, beginning, streams, answer_of};
 
 use crate::advance::advance;

@@ -1,7 +1,7 @@
 //! The stack with which a guest begins (System V ABI, i386 supplement, process initialization).
 ghost use Rattle.std.specs.Prelude.{◌≡◌, ◌+◌, ◌<◌, ◌^◌, ◌++◌, length, map, string_bytes, IfOk, OnOk};
 ghost use Rattle.br_word.specs.Memory.{bytes_of, zeros};
-ghost use Rattle.guest_run.specs.Opening.{FitArguments, arguments, texts, text_places, first_text, stack_pointer, stack_top};
+ghost use Rattle.run_model.specs.Opening.{FitArguments, arguments, texts, text_places, first_text, stack_pointer, stack_top};
 
 use std::alloc::{AllocError, Global};
 

@@ -12,7 +12,7 @@ use Rattle.ia_inst.specs.Act.{Act, Load, Store, Ask, Divides, Calls, Ends, Chang
 use Rattle.ia_inst.specs.Meaning.{wrap}
 use Rattle.ia_inst.specs.System.{answers, buffer, filled, system, Way, On, Bad, or_bad}
 use Rattle.ia_inst.specs.Step.{Found, NoCode, NoInst, There, found_in, found, act_of, way_of, way_at, step_way, asked_at, settled, unless_stopped, step, AllMarked, NoFault, IsWellDefined}
-use Rattle.guest_run.specs.Run.{first_choice, run, WellDefined}
+use Rattle.run_model.specs.Run.{first_choice, run, WellDefined}
 
 -- each region ends below
 abbrev pub AllLow : ℕ → List Region → Type 0

@@ -2,9 +2,9 @@
 use Rattle.std.specs.Prelude.{ℕ, ◌+◌, ◌*◌, ◌<◌, true, ◌≡◌, List, [], ◌∷◌, Contains}
 use Rattle.elf_read.specs.declared.exe.Segment.{Segment}
 use Rattle.elf_read.specs.Elf.{in_segment}
-use Rattle.guest_run.specs.Opening.{FitArguments, guest_of}
-use Rattle.guest_run.specs.Run.{AreBytes, AreChoices, run_of, IsWellDefinedRun}
-use Rattle.guest_run.specs.Edges.{Edge, edges_of}
+use Rattle.run_model.specs.Opening.{FitArguments, guest_of}
+use Rattle.run_model.specs.Run.{AreBytes, AreChoices, run_of, IsWellDefinedRun}
+use Rattle.run_model.specs.Edges.{Edge, edges_of}
 
 abbrev pub AllIn : List Edge → List Edge → Type 0
 AllIn set [] = Unit {0}

@@ -3,8 +3,8 @@ use Rattle.std.specs.Prelude.{◌≡◌, ℕ, ◌+◌, ◌*◌, ◌≤◌, List,
 use Rattle.elf_read.specs.declared.exe.Exe.{Exe}
 use Rattle.elf_read.specs.declared.exe.Reach.TheVariants.{Guest}
 use Rattle.elf_read.specs.Elf.{elf}
-use Rattle.guest_run.specs.Opening.{FitArguments}
-use Rattle.guest_run.specs.Run.{AreBytes, AreChoices, observed_of, IsWellDefinedRun}
+use Rattle.run_model.specs.Opening.{FitArguments}
+use Rattle.run_model.specs.Run.{AreBytes, AreChoices, observed_of, IsWellDefinedRun}
 
 -- Forward: where the original's run of k steps is well defined, the file comes to the same observation
 -- within a bound, and on the way shows only what the original shows at some moment up to k.

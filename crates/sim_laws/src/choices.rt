@@ -1,7 +1,7 @@
 //! Undefined flags do not matter to a well-defined run.
 ghost use Rattle.std.specs.Prelude.{◌≡◌, ℕ, List, []};
 ghost use Rattle.br_word.specs.State.{State};
-ghost use Rattle.guest_run.specs.Run.{AreChoices, observed, run, WellDefined};
+ghost use Rattle.run_model.specs.Run.{AreChoices, observed, run, WellDefined};
 
 /// Whatever bits a processor puts into undefined flags, a run that is well defined shows the same,
 /// stands at the same address and has the same registers and memory.

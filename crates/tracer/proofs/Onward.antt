@@ -6,7 +6,7 @@ use Rattle.ia_inst.specs.Step.{Found, NoCode, NoInst, There, found, step_way, st
 use Rattle.guest_sys.specs.Streams.{Streams}
 use Rattle.guest_sys.specs.Machine.{fed, bare}
 use Rattle.guest_sys.specs.Calls.{spare}
-use Rattle.guest_run.specs.Edges.{Edge, is_transfer, edge_by, edge_at, edge_of, edges_from}
+use Rattle.run_model.specs.Edges.{Edge, is_transfer, edge_by, edge_at, edge_of, edges_from}
 use Rattle.guest_run.specs.Guest.{GuestView, StepDone, first_edge, asks_next, ahead, while_running}
 use Rattle.guest_run.proofs.Shown.{shown, shown_bare, step_shown, edge_shown}
 use Rattle.guest_run.proofs.Composed.{run_none}

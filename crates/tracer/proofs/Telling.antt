@@ -8,8 +8,8 @@ use Rattle.guest_sys.specs.Streams.{Streams, Gains}
 use Rattle.guest_sys.specs.Calls.{asks, spare, Passes}
 use Rattle.guest_sys.specs.declared.answers.SysError.{SysError}
 use Rattle.guest_sys.specs.declared.answers.SysError.TheVariants as sys
-use Rattle.guest_run.specs.Opening.{opening, arguments}
-use Rattle.guest_run.specs.Run.{run}
+use Rattle.run_model.specs.Opening.{opening, arguments}
+use Rattle.run_model.specs.Run.{run}
 use Rattle.guest_run.specs.Guest.{GuestView, beginning, traps, asks_by, asks_next, ahead, while_running, answer_of, Unchanged, RunDone, RunFailed, RunFailsAt}
 use Rattle.trace_file.specs.Edges.{Edge}
 use Rattle.tracer.specs.declared.answers.Traced.{Traced}

@@ -7,8 +7,8 @@ use Rattle.guest_sys.specs.Streams.{Streams}
 use Rattle.guest_sys.specs.Calls.{Passes}
 use Rattle.guest_sys.specs.declared.answers.SysError.{SysError}
 use Rattle.guest_sys.specs.declared.answers.SysError.TheVariants as sys
-use Rattle.guest_run.specs.Run.{run}
-use Rattle.guest_run.specs.Edges.{edges_from}
+use Rattle.run_model.specs.Run.{run}
+use Rattle.run_model.specs.Edges.{edges_from}
 use Rattle.guest_run.specs.Guest.{ahead, answer_of, steps_taken, undefined_taken, RunFailsAt}
 use Rattle.trace_file.specs.Edges.{Edge, in_order}
 use Rattle.tracer.specs.Tour.{entry_edge, edge_limit}

@@ -1,7 +1,7 @@
 //! A guest runs, and its edges are recorded.
 ghost use Rattle.std.specs.Prelude.{◌≡◌, ◌≤◌, ◌+◌, ◌^◌, true, IfSome, IfOk, Result, length, map, string_bytes, [], ◌∷◌};
 ghost use Rattle.elf_read.specs.Elf.{IsGuest};
-ghost use Rattle.guest_run.specs.Opening.{FitArguments, opening, arguments};
+ghost use Rattle.run_model.specs.Opening.{FitArguments, opening, arguments};
 ghost use Rattle.guest_run.specs.Guest.{beginning, streams};
 ghost use Rattle.guest_sys.specs.Streams.{Streams};
 ghost use Rattle.tracer.specs.Tour.{Tour, Rests, entry_edge, edge_limit};

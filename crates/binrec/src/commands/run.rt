@@ -4,7 +4,7 @@ ghost use Rattle.elf_read.specs.Elf.{elf, IsGuest};
 ghost use Rattle.elf_read.specs.declared.exe.Reach.TheVariants as reaches;
 ghost use Rattle.br_outside.specs.Outside.{ShelfView};
 ghost use Rattle.guest_run.specs.Guest.{beginning};
-ghost use Rattle.guest_run.specs.Opening.{FitArguments};
+ghost use Rattle.run_model.specs.Opening.{FitArguments};
 ghost use Rattle.binrec.specs.Plans.World.{World, on_shelf, world};
 ghost use Rattle.binrec.specs.Plans.Plan.{Went};
 ghost use Rattle.binrec.specs.Plans.Parts.{Goes, Checks};

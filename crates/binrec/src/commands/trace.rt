@@ -3,7 +3,7 @@ ghost use Rattle.std.specs.Prelude.{◌≡◌, ◌≤◌, ◌^◌, Ok, IfOk, [],
 ghost use Rattle.elf_read.specs.Elf.{IsGuest};
 ghost use Rattle.br_outside.specs.Outside.{ShelfView};
 ghost use Rattle.guest_run.specs.Guest.{beginning, stop_of};
-ghost use Rattle.guest_run.specs.Opening.{FitArguments};
+ghost use Rattle.run_model.specs.Opening.{FitArguments};
 ghost use Rattle.tracer.specs.Tour.{entry_edge};
 ghost use Rattle.binrec.specs.Plans.World.{World, on_shelf, world};
 ghost use Rattle.binrec.specs.Plans.Plan.{Went};

@@ -1,5 +1,5 @@
 use Rattle.std.proofs.Common.{◌≡◌, ◌+◌, length, map, drop, string_bytes}
-use Rattle.guest_run.specs.Opening.{texts, arguments}
+use Rattle.run_model.specs.Opening.{texts, arguments}
 use Rattle.guest_run.proofs.opening.first_text.Given as goal
 
 abbrev pub invariant-loop-arg : goal.invariant-loop-arg

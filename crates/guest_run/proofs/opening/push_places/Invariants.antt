@@ -1,5 +1,5 @@
 use Rattle.std.proofs.Common.{◌≡◌, ◌+◌, ◌^◌, ◌<◌, ◌++◌, length, map, drop, string_bytes}
-use Rattle.guest_run.specs.Opening.{texts, text_places}
+use Rattle.run_model.specs.Opening.{texts, text_places}
 use Rattle.guest_run.proofs.opening.push_places.Given as goal
 
 abbrev pub invariant-loop-arg : goal.invariant-loop-arg

@@ -1,5 +1,5 @@
 use Rattle.std.proofs.Common.{◌≡◌, ◌++◌, map, drop, string_bytes}
-use Rattle.guest_run.specs.Opening.{texts}
+use Rattle.run_model.specs.Opening.{texts}
 use Rattle.guest_run.proofs.opening.push_texts.Given as goal
 
 abbrev pub invariant-loop-arg : goal.invariant-loop-arg

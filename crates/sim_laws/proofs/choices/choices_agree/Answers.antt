@@ -1,5 +1,5 @@
 use Rattle.std.proofs.Common.{[], ap, refl, arith}
-use Rattle.guest_run.specs.Run.{observed}
+use Rattle.run_model.specs.Run.{observed}
 use Rattle.sim_laws.proofs.Widen.{every_high, run_more}
 use Rattle.sim_laws.proofs.choices.choices_agree.Goals as goal
 

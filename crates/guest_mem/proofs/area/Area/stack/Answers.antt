@@ -1,6 +1,6 @@
 use Rattle.std.proofs.Common.{◌≡◌, ◌++◌, ◌-◌, length, take, true, false, ◌∙◌, ap}
 use Rattle.br_word.specs.Memory.{Region, zeros}
-use Rattle.guest_mem.specs.Regions.{stack_with}
+use Rattle.elf_read.specs.Regions.{stack_with}
 use Rattle.guest_mem.proofs.Numbers.{take-own_zeros}
 use Rattle.guest_mem.proofs.area.Area.stack.Goals as goal
 

@@ -3,7 +3,7 @@ use Rattle.std.proofs.lemmas.List.{take_all}
 use Rattle.elf_read.specs.declared.exe.Reach.TheVariants.{Guest}
 use Rattle.elf_read.specs.Elf.{lowest}
 use Rattle.br_word.specs.Memory.{Region}
-use Rattle.guest_mem.specs.Regions.{region_of, stack_region, heap_region}
+use Rattle.elf_read.specs.Regions.{region_of, stack_region, heap_region}
 use Rattle.guest_mem.proofs.Heaps.{segment-room, HasHeap-opening}
 use Rattle.guest_mem.proofs.memory.Memory.of.Goals as goal
 

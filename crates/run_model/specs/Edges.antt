@@ -7,7 +7,7 @@ use Rattle.ia_inst.specs.Kinds.{kind_of}
 use Rattle.br_word.specs.State.{State, Stop, Running, Exited, Faulted}
 use Rattle.ia_inst.specs.Step.{Found, NoCode, NoInst, There, found, step_way, step}
 use Rattle.ia_inst.specs.System.{Way, On, Bad}
-use Rattle.guest_run.specs.Opening.{guest_of, opening_of}
+use Rattle.run_model.specs.Opening.{guest_of, opening_of}
 
 abbrev pub is_transfer_kind : Kind → Bool
 is_transfer_kind Transfer = true

@@ -2,7 +2,7 @@
 use Rattle.std.specs.Prelude.{ℕ, zero, suc, ◌<◌, List, [], ◌∷◌, drop, All}
 use Rattle.br_word.specs.State.{State, Stop}
 use Rattle.ia_inst.specs.Step.{step, IsWellDefined}
-use Rattle.guest_run.specs.Opening.{opening_of}
+use Rattle.run_model.specs.Opening.{opening_of}
 
 -- what is observed of a state: the bytes on descriptors 1 and 2, the input that is left, and the stop
 pub record Observation : Type 0 where

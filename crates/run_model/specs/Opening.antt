@@ -5,7 +5,7 @@ use Rattle.br_word.specs.State.{State, Running, all_flags}
 use Rattle.elf_read.specs.declared.exe.Exe.{Exe}
 use Rattle.elf_read.specs.declared.exe.Reach.TheVariants.{Guest}
 use Rattle.elf_read.specs.Elf.{Refused, elf}
-use Rattle.guest_mem.specs.Regions.{opening_regions}
+use Rattle.elf_read.specs.Regions.{opening_regions}
 
 -- the arguments of a guest that is given these words
 abbrev pub arguments : List (List ℕ) → List (List ℕ)
