@@ -1,7 +1,7 @@
 -- What the turns of a guest come to is its run.
 use Rattle.std.proofs.Common.{◌≡◌, ℕ, zero, suc, ◌+◌, List, [], ◌++◌, Ok, refl, sym, ◌∙◌, ap, append_assoc, arith}
 use Rattle.br_word.specs.Words.{bit}
-use Rattle.br_word.specs.State.{State, Stop, Running, Exited, Faulted}
+use Rattle.br_word.specs.State.{State, RunState, Running, Exited, Faulted}
 use Rattle.ia_inst.specs.Step.{step}
 use Rattle.br_outside.specs.Files.{Files}
 use Rattle.guest_sys.specs.Calls.{spare}
@@ -20,7 +20,7 @@ shown_before u more e = record e { spare = more + e.spare; printed = u.out ++ e.
 
 -- what the rest comes to, by how the guest stands then, the input left, and the guest's counts
 abbrev pub Rest : Type 0
-Rest = Stop → List ℕ → ℕ → ℕ → Ending
+Rest = RunState → List ℕ → ℕ → ℕ → Ending
 
 -- at most n steps of a guest with this input left, and then the rest
 abbrev pub ran_before : Rest → ℕ → GuestView → List ℕ → Ending
@@ -36,12 +36,12 @@ pub bare_next : (g : GuestView) (left : List ℕ) → IsBare (next_guest g left)
 bare_next g left = record { out = refl; err = refl }
 
 -- a guest runs or not
-pub by_running : (P : Type 0) (x : Stop) → (x ≡ Running → P) → ((x ≡ Running → ⊥) → P) → P
+pub by_running : (P : Type 0) (x : RunState) → (x ≡ Running → P) → ((x ≡ Running → ⊥) → P) → P
 by_running P Running go stay = go refl
 by_running P (Exited n) go stay = stay (λ r. (let z : Exited n ≡ Running = r in cc))
 by_running P (Faulted f) go stay = stay (λ r. (let z : Faulted f ≡ Running = r in cc))
 
-rest_as : (rest : Rest) (a b : Stop) (i j : List ℕ) (m m' u u' : ℕ) → a ≡ b → i ≡ j → m ≡ m' → u ≡ u' → rest a i m u ≡ rest b j m' u'
+rest_as : (rest : Rest) (a b : RunState) (i j : List ℕ) (m m' u u' : ℕ) → a ≡ b → i ≡ j → m ≡ m' → u ≡ u' → rest a i m u ≡ rest b j m' u'
 rest_as rest a b i j m m' u u' e l f g = ap (λ a. rest a i m u) e ∙ (ap (λ i. rest b i m u) l ∙ (ap (λ m. rest b j m u) f ∙ ap (λ u. rest b j m' u) g))
 
 -- ---- a guest that takes no step
@@ -67,7 +67,7 @@ still rest n g left b h =
     rest_as rest _ _ _ _ _ _ _ _ (sym (ap (λ t. t.stop) h.state)) (sym (ap (λ t. t.input) h.state)) (let k = h.steps in omega (arith, k)) (let k = h.undefined in omega (arith, k))
     ∙ unshown u _ _ h.more (ap (λ t. t.out) h.state ∙ b.out) (ap (λ t. t.err) h.state ∙ b.err)
 
-none_spare : (x : Stop) (k : ℕ) → while_running x (spare x k) 0 ≡ 0
+none_spare : (x : RunState) (k : ℕ) → while_running x (spare x k) 0 ≡ 0
 none_spare Running k = refl
 none_spare (Exited n) k = refl
 none_spare (Faulted f) k = refl
@@ -75,7 +75,7 @@ none_spare (Faulted f) k = refl
 pub no_step : (rest : Rest) (g : GuestView) (left : List ℕ) → IsBare g → rest g.state.stop left g.steps g.undefined ≡ ran_before rest 0 g left
 no_step rest g left b = still rest 0 g left b (record { state = refl; steps = refl; undefined = refl; more = none_spare g.state.stop (asks_next (fed left g.state)) })
 
-none_more : (x : Stop) (k : ℕ) → (x ≡ Running → ⊥) → while_running x k 0 ≡ 0
+none_more : (x : RunState) (k : ℕ) → (x ≡ Running → ⊥) → while_running x k 0 ≡ 0
 none_more Running k not = absurd (not refl)
 none_more (Exited n) k not = refl
 none_more (Faulted f) k not = refl

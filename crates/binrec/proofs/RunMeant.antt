@@ -3,7 +3,7 @@ use Rattle.std.proofs.Common.{◌≡◌, ◌⊎◌, ◌≤◌, ◌+◌, ℕ, nat
 use Rattle.std.specs.Option.{option_map}
 use Rattle.std.proofs.lemmas.Bool.{le-leb, lt-leb, cond-true, cond-false}
 use Rattle.std.proofs.lemmas.List.{append-nil}
-use Rattle.br_word.specs.State.{State, Stop, Running, Exited, Faulted}
+use Rattle.br_word.specs.State.{State, RunState, Running, Exited, Faulted}
 use Rattle.br_outside.specs.Files.{Files}
 use Rattle.elf_read.specs.Elf.{elf, Refused}
 use Rattle.elf_read.specs.declared.exe.Exe.{Exe}
@@ -50,13 +50,13 @@ not_begun stop files left s result t told has w =
     let none : h.0 ≡ 0 = omega (arith, h.1) in
     only_says stop files left s result t told (h.2 ∙ (ap (λ n. Some (drop n left)) none ∙ sym has)) w
 
-while_le : (x : Stop) (k : ℕ) → while_running x k 0 ≤ k
+while_le : (x : RunState) (k : ℕ) → while_running x k 0 ≤ k
 while_le Running k = omega arith
 while_le (Exited n) k = omega arith
 while_le (Faulted f) k = omega arith
 
 -- the steps up to a state have shown what they did, and then a line was reported
-pub has_shown : (x : Stop) (u : State) (stored : List Store) (end : End) (files files' : Files) (left : List ℕ) (s : World) (result : ℕ) (t : World) → s.input.bytes ≡ Some left
+pub has_shown : (x : RunState) (u : State) (stored : List Store) (end : End) (files files' : Files) (left : List ℕ) (s : World) (result : ℕ) (t : World) → s.input.bytes ≡ Some left
     → IsWhole files left (shown_before u (while_running x (ahead u) 0) (record (ends_with end files' u.input) { stored = stored })) s result t → HasShown u (end_text end) s t
 has_shown x u stored end files files' left s result t has w =
     let i = w.input has in

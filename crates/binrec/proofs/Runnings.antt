@@ -1,6 +1,6 @@
 -- The ends that `run`, `trace`, `merge` and `show` can come to.
 use Rattle.std.proofs.Common.{◌≡◌, ◌+◌, ℕ, zero, suc, nat_le, Bool, true, false, List, [], ◌∷◌, length, Result, Ok, Err, cond, sym, ◌∙◌, subst, inl, inr, arith}
-use Rattle.br_word.specs.State.{Stop, Running, Exited, Faulted}
+use Rattle.br_word.specs.State.{RunState, Running, Exited, Faulted}
 use Rattle.br_outside.specs.declared.errors.ShelfError.TheVariants as shelf_errors
 use Rattle.br_outside.specs.declared.errors.StoreError.TheVariants as store_errors
 use Rattle.br_outside.specs.declared.errors.SinkError.TheVariants as sink_errors
@@ -37,7 +37,7 @@ NoUsage o = end_status o ≡ 1 → ⊥
 ends_so : (o e : End) → o ≡ e → NoUsage e → NoUsage o
 ends_so o e is h = subst NoUsage (sym is) h
 
-finish_so : (x : Stop) → finish_status (finish_of x) ≡ 1 → ⊥
+finish_so : (x : RunState) → finish_status (finish_of x) ≡ 1 → ⊥
 finish_so Running h = omega (arith, h)
 finish_so (Exited n) h = omega (arith, h)
 finish_so (Faulted f) h = omega (arith, h)
@@ -53,7 +53,7 @@ end_end done h s o t (inr is) = ends_so o _ is.0 h
 stands_end : (g : GuestView) → EndsSo (stands g)
 stands_end g = end_end (finished g.state.stop g.steps g.undefined) (finish_so g.state.stop)
 
-while_end : (x : Stop) (p q : Plan) → EndsSo p → EndsSo q → EndsSo (while_running x p q)
+while_end : (x : RunState) (p q : Plan) → EndsSo p → EndsSo q → EndsSo (while_running x p q)
 while_end Running p q h k = h
 while_end (Exited n) p q h k = k
 while_end (Faulted f) p q h k = k

@@ -1,7 +1,7 @@
 -- What holds of each turn of a guest holds of each turn of every command. So no command takes more of the input than it uses,
 -- but in the last turn that reads, and none asks for more than it uses.
 use Rattle.std.proofs.Common.{◌≡◌, ◌⊎◌, ◌+◌, nat_le, cond, Bool, true, false, ℕ, zero, suc, List, [], ◌∷◌, length, Result, Ok, Err, refl, sym, subst, inl, inr}
-use Rattle.br_word.specs.State.{Stop, Running, Exited, Faulted}
+use Rattle.br_word.specs.State.{RunState, Running, Exited, Faulted}
 use Rattle.ia_inst.specs.Step.{step}
 use Rattle.elf_read.specs.Elf.{elf}
 use Rattle.elf_read.specs.declared.exe.Reach.TheVariants.{Original, Guest}
@@ -40,7 +40,7 @@ stopped_quiet : (n : ℕ) (h : GuestView) → (h.state.stop ≡ Running → ⊥)
 unfolding NoInput
 stopped_quiet n h not = let P : Plan → Type 0 = λ p. NoInput p in subst P (sym (has_stopped n h not)) tt
 
-pub while_turns : (P : Turned → List ℕ → Plan → Type 0) (x : Stop) (turns stays : Plan) → (x ≡ Running → AllTurns P turns) → AllTurns P stays → AllTurns P (while_running x turns stays)
+pub while_turns : (P : Turned → List ℕ → Plan → Type 0) (x : RunState) (turns stays : Plan) → (x ≡ Running → AllTurns P turns) → AllTurns P stays → AllTurns P (while_running x turns stays)
 while_turns P Running turns stays p q = p refl
 while_turns P (Exited n) turns stays p q = q
 while_turns P (Faulted f) turns stays p q = q
@@ -58,7 +58,7 @@ unless_too_many : (P : Plan → Type 0) (fits : Bool) (p q : Plan) → P p → P
 unless_too_many P true p q a b = a
 unless_too_many P false p q a b = b
 
-stays_quiet : (x : Stop) (turns stays : Plan) → (x ≡ Running → ⊥) → NoInput stays → NoInput (while_running x turns stays)
+stays_quiet : (x : RunState) (turns stays : Plan) → (x ≡ Running → ⊥) → NoInput stays → NoInput (while_running x turns stays)
 stays_quiet Running turns stays not quiet = absurd (not refl)
 stays_quiet (Exited n) turns stays not quiet = quiet
 stays_quiet (Faulted f) turns stays not quiet = quiet
@@ -134,7 +134,7 @@ command_turns P (Ok (Demos n)) word each = tt
 command_turns P (Err at) word each = tt
 
 -- what may be taken beyond is 0, or the guest has stopped
-spares : (rest : Plan) (k : ℕ) (x : Stop) → ((x ≡ Running → ⊥) → NoInput rest) → (spare x k ≡ 0) ⊎ NoInput rest
+spares : (rest : Plan) (k : ℕ) (x : RunState) → ((x ≡ Running → ⊥) → NoInput rest) → (spare x k ≡ 0) ⊎ NoInput rest
 spares rest k Running quiet = inl refl
 spares rest k (Exited status) quiet = inl refl
 spares rest k (Faulted f) quiet = inr (quiet (λ running. cc))

@@ -7,10 +7,10 @@ use Rattle.br_word.specs.Memory.{Region, resized}
 use Rattle.br_word.specs.State.{State, Running}
 use Rattle.ia_inst.specs.declared.inst.Inst.{Inst}
 use Rattle.ia_inst.specs.declared.inst.Inst.TheVariants as inst
-use Rattle.ia_inst.specs.Act.{End, Next, Denied, Divided, Called, perform}
+use Rattle.ia_inst.specs.Act.{Completion, Next, Denied, Divided, Called, perform}
 use Rattle.ia_inst.specs.Meaning.{wrap, meaning}
-use Rattle.ia_inst.specs.Step.{Found, NoCode, NoInst, There, found, act_of, way_of, way_at, step_way, settled, unless_stopped, step}
-use Rattle.ia_inst.specs.System.{Way, On, Bad, or_bad, answers, buffer, filled, call_exit, call_read, call_write, call_brk, system}
+use Rattle.ia_inst.specs.Step.{Found, NoCode, NoInst, There, found, act_of, result_of, result_at, step_result, settled, unless_stopped, step}
+use Rattle.ia_inst.specs.System.{StepResult, On, Bad, or_bad, answers, buffer, filled, call_exit, call_read, call_write, call_brk, system}
 use Rattle.guest_sys.specs.Machine.{fed}
 use Rattle.guest_sys.specs.Calls.{asks}
 use Rattle.guest_run.specs.Guest.{GuestView, is_trap, traps_at, asks_by, asks_next}
@@ -20,14 +20,14 @@ use Rattle.binrec.specs.Guests.{turn, next_turn}
 use Rattle.binrec.specs.Plans.Partial.{Uses}
 
 -- the way of a step from s uses what the step asks for
-abbrev WayUses : State → Way → Type 0
+abbrev WayUses : State → StepResult → Type 0
 WayUses s w = Uses (turn s (settled w s)) s.input
 
 -- the way leaves the input as it is
-abbrev NoneUsed : State → Way → Type 0
+abbrev NoneUsed : State → StepResult → Type 0
 NoneUsed s w = (settled w s).input ≡ s.input
 
-none_used : (s : State) (w : Way) → asks_next s ≡ 0 → NoneUsed s w → WayUses s w
+none_used : (s : State) (w : StepResult) → asks_next s ≡ 0 → NoneUsed s w → WayUses s w
 none_used s w none same = record {
   used = 0;
   rest = same;
@@ -67,7 +67,7 @@ read_uses s next at n true (Some rs) is = record {
 read_uses s next at n false o is = none_used s (On (answers (2 ^ 32 - 9) next s)) is refl
 
 -- only the call of number 3 asks for anything
-choose_uses : (s : State) (p q r u : Bool) (a b c d f : Way) → (q ≡ false → asks_next s ≡ 0) → (p ≡ true → q ≡ false) → NoneUsed s a → (q ≡ true → WayUses s b) → NoneUsed s c → NoneUsed s d → NoneUsed s f
+choose_uses : (s : State) (p q r u : Bool) (a b c d f : StepResult) → (q ≡ false → asks_next s ≡ 0) → (p ≡ true → q ≡ false) → NoneUsed s a → (q ≡ true → WayUses s b) → NoneUsed s c → NoneUsed s d → NoneUsed s f
     → WayUses s (if p then a else if q then b else if r then c else if u then d else f)
 choose_uses s true q r u a b c d f none other va vb vc vd vf = none_used s a (none (other refl)) va
 choose_uses s false true r u a b c d f none other va vb vc vd vf = vb refl
@@ -102,32 +102,32 @@ trap_is inst.Int80 e = refl
 trap_is i e = absurd (cc)
 
 -- an instruction that is no system call leaves the input as it is
-end_same : (s : State) (e : End) → ((k : ℕ) → e ≡ Called k → ⊥) → NoneUsed s (way_of e s)
+end_same : (s : State) (e : Completion) → ((k : ℕ) → e ≡ Called k → ⊥) → NoneUsed s (result_of e s)
 end_same s (Next u rs to) none = refl
 end_same s (Denied at) none = refl
 end_same s Divided none = refl
 end_same s (Called k) none = absurd (none k refl)
 
-call_uses : (n : ℕ) (s : State) → asks_next s ≡ asks s → WayUses s (way_at (There inst.Int80 n) s 0)
+call_uses : (n : ℕ) (s : State) → asks_next s ≡ asks s → WayUses s (result_at (There inst.Int80 n) s 0)
 unfolding meaning
 call_uses n s is = system_uses (wrap (s.eip + n)) s is
 
-inst_uses : (i : Inst) (n : ℕ) (s : State) → asks_next s ≡ asks_by (is_trap i) s → (b : Bool) → is_trap i ≡ b → WayUses s (way_at (There i n) s 0)
-inst_uses i n s is true trap = let P : Inst → Type 0 = λ i. WayUses s (way_at (There i n) s 0) in subst P (sym (trap_is i trap)) (call_uses n s (is ∙ ap (λ b. asks_by b s) trap))
+inst_uses : (i : Inst) (n : ℕ) (s : State) → asks_next s ≡ asks_by (is_trap i) s → (b : Bool) → is_trap i ≡ b → WayUses s (result_at (There i n) s 0)
+inst_uses i n s is true trap = let P : Inst → Type 0 = λ i. WayUses s (result_at (There i n) s 0) in subst P (sym (trap_is i trap)) (call_uses n s (is ∙ ap (λ b. asks_by b s) trap))
 inst_uses i n s is false trap =
-    none_used s (way_at (There i n) s 0) (is ∙ ap (λ b. asks_by b s) trap)
+    none_used s (result_at (There i n) s 0) (is ∙ ap (λ b. asks_by b s) trap)
     (end_same s (perform (act_of i n s) 0 s.cpu s.regions) (λ k e. never_called (act_of i n s) 0 s.cpu s.regions k (no_call i n s.cpu.regs s.eip s.cpu.df trap) e))
 
-way_uses : (f : Found) (s : State) → asks_next s ≡ asks_by (traps_at f) s → WayUses s (way_at f s 0)
-way_uses NoCode s is = none_used s (way_at NoCode s 0) is refl
-way_uses NoInst s is = none_used s (way_at NoInst s 0) is refl
+way_uses : (f : Found) (s : State) → asks_next s ≡ asks_by (traps_at f) s → WayUses s (result_at f s 0)
+way_uses NoCode s is = none_used s (result_at NoCode s 0) is refl
+way_uses NoInst s is = none_used s (result_at NoInst s 0) is refl
 way_uses (There i n) s is = inst_uses i n s is (is_trap i) refl
 
 step_uses : (s : State) → s.stop ≡ Running → Uses (turn s (step s 0)) s.input
 unfolding step
 step_uses s running =
     let P : State → Type 0 = λ t. Uses (turn s t) s.input in
-    subst P (sym (ap (λ x. unless_stopped x s (settled (step_way s 0) s)) running)) (way_uses (found s.eip s.regions) s refl)
+    subst P (sym (ap (λ x. unless_stopped x s (settled (step_result s 0) s)) running)) (way_uses (found s.eip s.regions) s refl)
 
 pub guest_uses : (g : GuestView) (left : List ℕ) → g.state.stop ≡ Running → Uses (next_turn g left) left
 guest_uses g left running = step_uses (fed left g.state) running

@@ -7,7 +7,7 @@ use Rattle.guest_sys.specs.Streams.{Streams}
 use Rattle.guest_sys.specs.Machine.{fed}
 use Rattle.guest_sys.specs.declared.answers.SysError.{SysError}
 use Rattle.guest_sys.specs.declared.answers.SysError.TheVariants as sys
-use Rattle.guest_run.specs.Guest.{GuestView, StepDone, Steps, stop_of, while_running}
+use Rattle.guest_run.specs.Guest.{GuestView, StepDone, StepCall, stop_of, while_running}
 use Rattle.trace_file.specs.Edges.{Edge}
 use Rattle.trace_file.specs.Trace.{trace_bytes}
 use Rattle.tracer.specs.declared.answers.Traced.{Traced}
@@ -88,7 +88,7 @@ same_error sys.Report = refl
 same_error sys.Memory = refl
 
 -- a step failed
-failed : (last : Traced → Plan) (n : ℕ) (g h : GuestView) (es : List Edge) (e : SysError) (r : Result Traced TracingError) (v : ShelfView) (before after : Streams) (o : End) (u : World) → Steps (Err e) 0 g h before after → r ≡ Err (error_of e)
+failed : (last : Traced → Plan) (n : ℕ) (g h : GuestView) (es : List Edge) (e : SysError) (r : Result Traced TracingError) (v : ShelfView) (before after : Streams) (o : End) (u : World) → StepCall (Err e) 0 g h before after → r ≡ Err (error_of e)
     → Follows last r (with_streams v after) o u → Went (tour_plan last (suc n) g es) (with_streams v before) o u
 failed last n g h es e r v before after o u a is f =
     let ends = follows last r (Err (error_of e)) v after after o u is refl f in
@@ -96,7 +96,7 @@ failed last n g h es e r v before after o u a is f =
     (ends_so _ _ (with_streams v after) (stop_of_error e) o u (ends.0 ∙ ap Err (same_error e), ends.1) (turn_fails (after_step last n g es) g h v before after e a))
 
 -- a step was taken, after which the plan goes on
-stepped_on : (last : Traced → Plan) (n : ℕ) (g h : GuestView) (es : List Edge) (v : ShelfView) (before after : Streams) (o : End) (u : World) → Steps (Ok true) 0 g h before after
+stepped_on : (last : Traced → Plan) (n : ℕ) (g h : GuestView) (es : List Edge) (v : ShelfView) (before after : Streams) (o : End) (u : World) → StepCall (Ok true) 0 g h before after
     → Went (unless_full (tour_plan last n h) (with_step h.edge es)) (with_streams v after) o u → Went (tour_plan last (suc n) g es) (with_streams v before) o u
 stepped_on last n g h es v before after o u a went =
     let d : StepDone (fed a.left g.state) 0 g h before after = a.gives in

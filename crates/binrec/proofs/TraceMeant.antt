@@ -1,7 +1,7 @@
 -- What `trace` answers means what it is to mean.
 use Rattle.std.proofs.Common.{◌≡◌, ◌⊎◌, ◌+◌, ℕ, List, [], ◌∷◌, ◌++◌, length, Option, Some, None, Result, Ok, Err, refl, sym, ◌∙◌, ap, subst, inl, inr, arith}
 use Rattle.std.specs.Option.{option_map}
-use Rattle.br_word.specs.State.{Stop}
+use Rattle.br_word.specs.State.{RunState}
 use Rattle.br_outside.specs.Files.{Files, put}
 use Rattle.elf_read.specs.Elf.{elf, Refused}
 use Rattle.elf_read.specs.declared.exe.Exe.{Exe}
@@ -42,7 +42,7 @@ use Rattle.binrec.proofs.Reading.{chosen}
 abbrev toured_part : List ℕ → ℕ → List (List ℕ) → Subject → Plan
 toured_part target n args subject = tour_plan (traced_part target subject.digest) n (beginning subject.exe args) (entry_edge subject.exe ∷ [])
 
-line_as : (a b : Stop) (m m' u u' k : ℕ) → a ≡ b → m ≡ m' → u ≡ u' → traced_line a m u k ≡ traced_line b m' u' k
+line_as : (a b : RunState) (m m' u u' k : ℕ) → a ≡ b → m ≡ m' → u ≡ u' → traced_line a m u k ≡ traced_line b m' u' k
 line_as a b m m' u u' k e f g = ap (λ a. traced_line a m u k) e ∙ (ap (λ m. traced_line b m u k) f ∙ ap (λ u. traced_line b m' u k) g)
 
 has_traced : (target digest : List ℕ) (n : ℕ) (exe : Exe) (args : List (List ℕ)) (files : Files) (left : List ℕ) (s : World) (result : ℕ) (t : World) → s.shelf.files ≡ Some files → s.input.bytes ≡ Some left

@@ -1,14 +1,14 @@
 -- A guest's steps as turns of a plan.
 use Rattle.std.proofs.Common.{◌≡◌, ◌<◌, ◌≤◌, ◌+◌, ℕ, zero, suc, Bool, true, false, IsTrue, List, Result, Ok, Err, refl, sym, ◌∙◌, ap, subst, inr}
 use Rattle.br_outside.specs.Outside.{ShelfView}
-use Rattle.br_word.specs.State.{State, Stop, Running, Exited, Faulted}
+use Rattle.br_word.specs.State.{State, RunState, Running, Exited, Faulted}
 use Rattle.guest_sys.specs.Streams.{Streams, Tells}
 use Rattle.guest_sys.specs.Machine.{fed}
 use Rattle.guest_sys.specs.Calls.{asks}
 use Rattle.guest_sys.specs.declared.answers.SysError.{SysError}
 use Rattle.guest_sys.specs.declared.answers.SysError.TheVariants as sys
 use Rattle.guest_run.specs.declared.stop.Stop as answer
-use Rattle.guest_run.specs.Guest.{GuestView, StepDone, StepFailed, NoStep, Steps, stop_of, answer_of, while_running, asks_by, asks_next, traps}
+use Rattle.guest_run.specs.Guest.{GuestView, StepDone, StepFailed, NoStep, StepCall, stop_of, answer_of, while_running, asks_by, asks_next, traps}
 use Rattle.binrec.specs.Plans.World.{World, world}
 use Rattle.binrec.specs.Plans.Texts.{End}
 use Rattle.binrec.specs.Plans.Plan.{Plan, Turns, Went, AfterTurn, GoesOn, FailsInput, FailsOutput, FailsReport, WantsMemory}
@@ -23,7 +23,7 @@ with_streams v z = world v z.input z.out z.err
 
 -- ---- how a guest stands
 
-pub same_stop : (s : Stop) → stop_of (answer_of s) ≡ s
+pub same_stop : (s : RunState) → stop_of (answer_of s) ≡ s
 same_stop Running = refl
 same_stop (Exited n) = refl
 same_stop (Faulted f) = refl
@@ -46,7 +46,7 @@ unfolding Went
 turns next g left s o u told after = inr (left, told, after)
 
 -- a step was taken
-pub turn_done : (next : List ℕ → Plan) (g h : GuestView) (v : ShelfView) (before after : Streams) (o : End) (u : World) (a : Steps (Ok true) 0 g h before after)
+pub turn_done : (next : List ℕ → Plan) (g h : GuestView) (v : ShelfView) (before after : Streams) (o : End) (u : World) (a : StepCall (Ok true) 0 g h before after)
     → Went (next a.left) (with_streams v after) o u → Went (Turns (next_turn g) next) (with_streams v before) o u
 turn_done next g h v before after o u a went =
     let d : StepDone (fed a.left g.state) 0 g h before after = a.gives in
@@ -59,7 +59,7 @@ asked_all true s is = refl
 asked_all false s is = let h : false ≡ true = is in cc
 
 -- a step failed
-pub turn_fails : (next : List ℕ → Plan) (g h : GuestView) (v : ShelfView) (before after : Streams) (error : SysError) → Steps (Err error) 0 g h before after
+pub turn_fails : (next : List ℕ → Plan) (g h : GuestView) (v : ShelfView) (before after : Streams) (error : SysError) → StepCall (Err error) 0 g h before after
     → Went (Turns (next_turn g) next) (with_streams v before) (Err (stop_of_error error)) (with_streams v after)
 turn_fails next g h v before after sys.Input a =
     let d : StepFailed sys.Input (fed a.left g.state) 0 g h before after = a.gives in
@@ -81,7 +81,7 @@ turn_fails next g h v before after sys.Memory a =
     turns next g a.left (with_streams v before) _ _ a.told (WantsMemory (record { ends = refl; taken = z.taken; few = (let P : ℕ → Type 0 = λ k. z.taken ≤ k in subst P few z.few); input = z.input; shelf = refl; out = z.out.bytes; report = z.err.bytes; out_steady = z.out.steady; report_steady = z.err.steady }))
 
 -- a guest whose step failed was running
-pub ran_when_failed : (g h : GuestView) (before after : Streams) (error : SysError) → Steps (Err error) 0 g h before after → g.state.stop ≡ Running
+pub ran_when_failed : (g h : GuestView) (before after : Streams) (error : SysError) → StepCall (Err error) 0 g h before after → g.state.stop ≡ Running
 ran_when_failed g h before after error a = let d : StepFailed error (fed a.left g.state) 0 g h before after = a.gives in d.running
 
 -- ---- what a plan of steps comes to
@@ -91,7 +91,7 @@ pub runs : (n : ℕ) (g : GuestView) → g.state.stop ≡ Running → guest_plan
 unfolding guest_plan
 runs n g is = ap (λ s. while_running s (Turns (next_turn g) (λ left. guest_plan n (next_guest g left))) (stands g)) is
 
-pub stopped_plan : (s : Stop) (a b : Plan) → (s ≡ Running → ⊥) → while_running s a b ≡ b
+pub stopped_plan : (s : RunState) (a b : Plan) → (s ≡ Running → ⊥) → while_running s a b ≡ b
 stopped_plan Running a b not = absurd (not refl)
 stopped_plan (Exited n) a b not = refl
 stopped_plan (Faulted f) a b not = refl
@@ -114,7 +114,7 @@ pub guest_as : (n : ℕ) (g h : GuestView) (s : World) (o : End) (u : World) →
 guest_as n g h s o u is went = let P : GuestView → Type 0 = λ g. Went (guest_plan n g) s o u in subst P (sym (ok_same g h is)) went
 
 -- a step was taken
-step_on : (n : ℕ) (g h : GuestView) (v : ShelfView) (before after : Streams) (o : End) (u : World) → Steps (Ok true) 0 g h before after
+step_on : (n : ℕ) (g h : GuestView) (v : ShelfView) (before after : Streams) (o : End) (u : World) → StepCall (Ok true) 0 g h before after
     → Went (guest_plan n h) (with_streams v after) o u → Went (guest_plan (suc n) g) (with_streams v before) o u
 step_on n g h v before after o u a went =
     let d : StepDone (fed a.left g.state) 0 g h before after = a.gives in
@@ -122,26 +122,26 @@ step_on n g h v before after o u a went =
     same_plan (guest_plan (suc n) g) _ (with_streams v before) o u (runs n g d.running)
     (turn_done (λ left. guest_plan n (next_guest g left)) g h v before after o u a (subst P d.guest went))
 
-pub steps_on : (k n : ℕ) (g h : GuestView) (v : ShelfView) (before after : Streams) (o : End) (u : World) (b : Bool) → Steps (Ok b) 0 g h before after → b ≡ true → k ≡ suc n
+pub steps_on : (k n : ℕ) (g h : GuestView) (v : ShelfView) (before after : Streams) (o : End) (u : World) (b : Bool) → StepCall (Ok b) 0 g h before after → b ≡ true → k ≡ suc n
     → Went (guest_plan n h) (with_streams v after) o u → Went (guest_plan k g) (with_streams v before) o u
 steps_on k n g h v before after o u b a taken more went =
-    let P : Bool → Type 0 = λ b. Steps (Ok b) 0 g h before after in
+    let P : Bool → Type 0 = λ b. StepCall (Ok b) 0 g h before after in
     let Q : ℕ → Type 0 = λ k. Went (guest_plan k g) (with_streams v before) o u in
     subst Q (sym more) (step_on n g h v before after o u (subst P taken a) went)
 
 -- no step was taken
-pub stays : (n : ℕ) (g h : GuestView) (v : ShelfView) (before after : Streams) (o : End) (u : World) (b : Bool) → Steps (Ok b) 0 g h before after → b ≡ false
+pub stays : (n : ℕ) (g h : GuestView) (v : ShelfView) (before after : Streams) (o : End) (u : World) (b : Bool) → StepCall (Ok b) 0 g h before after → b ≡ false
     → Went (stands h) (with_streams v after) o u → Went (guest_plan n g) (with_streams v before) o u
 stays n g h v before after o u b a none went =
-    let R : Bool → Type 0 = λ b. Steps (Ok b) 0 g h before after in
-    let a' : Steps (Ok false) 0 g h before after = subst R none a in
+    let R : Bool → Type 0 = λ b. StepCall (Ok b) 0 g h before after in
+    let a' : StepCall (Ok false) 0 g h before after = subst R none a in
     let d : NoStep (fed a'.left g.state) g h before after = a'.gives in
     let P : GuestView → Type 0 = λ h. Went (stands h) (with_streams v after) o u in
     let Q : Streams → Type 0 = λ z. Went (stands g) (with_streams v z) o u in
     same_plan (guest_plan n g) (stands g) (with_streams v before) o u (has_stopped n g d.stopped) (subst Q d.streams (subst P d.guest went))
 
 -- a step failed
-pub fails : (k n : ℕ) (g h : GuestView) (v : ShelfView) (before after : Streams) (error : SysError) → Steps (Err error) 0 g h before after → k ≡ suc n
+pub fails : (k n : ℕ) (g h : GuestView) (v : ShelfView) (before after : Streams) (error : SysError) → StepCall (Err error) 0 g h before after → k ≡ suc n
     → Went (guest_plan k g) (with_streams v before) (Err (stop_of_error error)) (with_streams v after)
 fails k n g h v before after error a more =
     let Q : ℕ → Type 0 = λ k. Went (guest_plan k g) (with_streams v before) (Err (stop_of_error error)) (with_streams v after) in
@@ -156,9 +156,9 @@ pub at_last : (k : ℕ) (g : GuestView) (s : World) (o : End) (u : World) → k 
 at_last k g s o u is went = before 0 k g s o u is (same_plan (guest_plan 0 g) (stands g) s o u (none_left g) went)
 
 -- a guest that took a step
-pub took_step : (g h : GuestView) (before after : Streams) (b : Bool) → Steps (Ok b) 0 g h before after → b ≡ true → (h.live ≡ true) × (h.steps ≡ g.steps + 1)
+pub took_step : (g h : GuestView) (before after : Streams) (b : Bool) → StepCall (Ok b) 0 g h before after → b ≡ true → (h.live ≡ true) × (h.steps ≡ g.steps + 1)
 took_step g h before after b a taken =
-    let P : Bool → Type 0 = λ b. Steps (Ok b) 0 g h before after in
-    let a' : Steps (Ok true) 0 g h before after = subst P taken a in
+    let P : Bool → Type 0 = λ b. StepCall (Ok b) 0 g h before after in
+    let a' : StepCall (Ok true) 0 g h before after = subst P taken a in
     let d : StepDone (fed a'.left g.state) 0 g h before after = a'.gives in
     (ap (λ h. h.live) d.guest, ap (λ h. h.steps) d.guest)

@@ -5,7 +5,7 @@ use Rattle.br_word.specs.declared.types.GuestFault.{GuestFault}
 use Rattle.br_word.specs.declared.types.Width.TheVariants.{B32}
 use Rattle.ia_text.specs.Operands.{digits_text}
 use Rattle.br_word.specs.declared.types.GuestFault.TheVariants.{Access, Illegal, Divide}
-use Rattle.br_word.specs.State.{State, Stop, Running, Exited, Faulted}
+use Rattle.br_word.specs.State.{State, RunState, Running, Exited, Faulted}
 use Rattle.ia_inst.specs.Step.{step}
 use Rattle.guest_sys.specs.Machine.{fed}
 use Rattle.guest_sys.specs.declared.answers.SysError.{SysError}
@@ -37,21 +37,21 @@ fault_address (Illegal at) = at
 fault_address (Divide at) = at
 
 -- how a guest stands
-abbrev pub stand_text : Stop → List ℕ
+abbrev pub stand_text : RunState → List ℕ
 stand_text Running = codes "budget"
 stand_text (Exited status) = codes "exit " ++ decimal status
 stand_text (Faulted fault) = codes "fault " ++ (fault_kind fault ++ (codes " " ++ digits_text B32 (fault_address fault)))
 
 -- how a guest stands, the steps that it took, and how many of them read an undefined flag
-abbrev pub last_line : Stop → ℕ → ℕ → List ℕ
+abbrev pub last_line : RunState → ℕ → ℕ → List ℕ
 last_line stop steps undefined = stand_text stop ++ counts_text steps undefined (codes "\n")
 
-abbrev pub finish_of : Stop → Finish
+abbrev pub finish_of : RunState → Finish
 finish_of Running = finishes.Budget
 finish_of (Exited status) = finishes.Done
 finish_of (Faulted fault) = finishes.Fault
 
-abbrev pub finished : Stop → ℕ → ℕ → Finished
+abbrev pub finished : RunState → ℕ → ℕ → Finished
 finished stop steps undefined = record { finish = finish_of stop; line = last_line stop steps undefined }
 
 -- ---- the turns

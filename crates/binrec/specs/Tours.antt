@@ -1,7 +1,7 @@
 -- A traced run as turns, and its last line.
 use Rattle.std.specs.Prelude.{ℕ, zero, suc, ◌++◌, List, length, nat_le, cond, codes, Err}
 use Rattle.std.specs.Fmt.{decimal}
-use Rattle.br_word.specs.State.{Stop}
+use Rattle.br_word.specs.State.{RunState}
 use Rattle.guest_run.specs.Guest.{GuestView, while_running, stop_of}
 use Rattle.trace_file.specs.Edges.{Edge}
 use Rattle.tracer.specs.declared.answers.Traced.{Traced}
@@ -18,7 +18,7 @@ use Rattle.binrec.specs.declared.acts.stop.Stop as work
 use Rattle.binrec.specs.declared.acts.stop.Stop.TheVariants.{Because, Outside, Memory}
 
 -- the last line of `run`, with the number of edges that were recorded
-abbrev pub traced_line : Stop → ℕ → ℕ → ℕ → List ℕ
+abbrev pub traced_line : RunState → ℕ → ℕ → ℕ → List ℕ
 traced_line stop steps undefined edges = stand_text stop ++ counts_text steps undefined (codes " edges " ++ (decimal edges ++ codes "\n"))
 
 abbrev pub traced_as : Traced → Finished

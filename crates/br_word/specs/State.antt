@@ -1,16 +1,17 @@
 -- The state of a guest (SDM volume 1, 3.4; the stop and the streams are those of the process).
-use Rattle.std.specs.Prelude.{ℕ, Bool, List}
+use Rattle.std.specs.Prelude.{ℕ, Bool, List, get_or}
 use Rattle.br_word.specs.declared.types.Flags.{Flags}
 use Rattle.br_word.specs.declared.types.GuestFault.{GuestFault}
 use Rattle.br_word.specs.Memory.{Region}
 
-pub data Stop : Type 0 where
-  Running : Stop
-  Exited : ℕ → Stop
-  Faulted : GuestFault → Stop
+-- whether a guest goes on, has exited with a status, or has faulted
+pub data RunState : Type 0 where
+  Running : RunState
+  Exited : ℕ → RunState
+  Faulted : GuestFault → RunState
 
 -- what an instruction sees besides memory and its own address
-pub record Cpu : Type 0 where
+pub record Processor : Type 0 where
   -- eax, ecx, edx, ebx, esp, ebp, esi, edi
   pub regs : List ℕ
   pub flags : Flags
@@ -20,7 +21,7 @@ pub record Cpu : Type 0 where
 
 pub record State : Type 0 where
   pub eip : ℕ
-  pub cpu : Cpu
+  pub cpu : Processor
   pub regions : List Region
   pub brk_start : ℕ
   pub brk : ℕ
@@ -28,8 +29,34 @@ pub record State : Type 0 where
   pub input : List ℕ
   pub out : List ℕ
   pub err : List ℕ
-  pub stop : Stop
+  pub stop : RunState
 
+-- the general registers by name (SDM volume 1, 3.4.1)
+abbrev pub eax : State → ℕ
+eax s = get_or s.cpu.regs 0 0
+
+abbrev pub ecx : State → ℕ
+ecx s = get_or s.cpu.regs 1 0
+
+abbrev pub edx : State → ℕ
+edx s = get_or s.cpu.regs 2 0
+
+abbrev pub ebx : State → ℕ
+ebx s = get_or s.cpu.regs 3 0
+
+abbrev pub esp : State → ℕ
+esp s = get_or s.cpu.regs 4 0
+
+abbrev pub ebp : State → ℕ
+ebp s = get_or s.cpu.regs 5 0
+
+abbrev pub esi : State → ℕ
+esi s = get_or s.cpu.regs 6 0
+
+abbrev pub edi : State → ℕ
+edi s = get_or s.cpu.regs 7 0
+
+-- the status flags (SDM volume 1, 3.4.3.1)
 pub data Flag : Type 0 where
   CF PF ZF SF OF : Flag
 

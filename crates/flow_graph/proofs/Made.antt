@@ -7,12 +7,12 @@ use Rattle.std.proofs.lemmas.List.Elements.{All-push, Contains-get_or, filter_pa
 use Rattle.std.proofs.lemmas.List.Sums.{length-filter, count_by-le-length}
 use Rattle.elf_read.specs.declared.exe.Exe.{Exe}
 use Rattle.elf_read.specs.Elf.{is_exec}
-use Rattle.lift_flow.specs.Transfers.{leads_to}
+use Rattle.block_cut.specs.Transfers.{leads_to}
 use Rattle.trace_file.proofs.Sorted.{and_inv}
-use Rattle.lift_flow.specs.declared.ends.End.{End}
-use Rattle.lift_flow.specs.declared.ends.End.TheVariants.{Transfer, Island, BeforeIsland, Unreadable, Full}
-use Rattle.lift_flow.specs.declared.ends.Cut.{Cut}
-use Rattle.lift_flow.specs.Blocks.{last_of, block_of, cut_of, follow_of}
+use Rattle.block_cut.specs.declared.ends.End.{End}
+use Rattle.block_cut.specs.declared.ends.End.TheVariants.{Transfer, Island, BeforeIsland, Unreadable, Full}
+use Rattle.block_cut.specs.declared.ends.Cut.{Cut}
+use Rattle.block_cut.specs.Blocks.{last_of, block_of, cut_of, follow_of}
 use Rattle.trace_file.specs.Edges.{Edge, ascends, IsEdges}
 use Rattle.flow_graph.specs.declared.rows.Row.{Row}
 use Rattle.flow_graph.specs.Graph.{Node, is_beginning, counts, counting, targets_from, known_by, known_of, starts_in, AreStarts, IsGraph, AreCode}

@@ -12,13 +12,13 @@ use Rattle.elf_read.specs.Code.{code_at}
 use Rattle.ia_inst.specs.declared.inst.Inst.{Inst}
 use Rattle.ia_inst.specs.Step.{There}
 use Rattle.ia_decode.proofs.Answered.{decode_length}
-use Rattle.lift_flow.specs.declared.ends.End.{End}
-use Rattle.lift_flow.specs.declared.ends.End.TheVariants.{Transfer, Island, BeforeIsland, Unreadable, Full}
-use Rattle.lift_flow.specs.Places.{Placed, found_at, inst_found}
-use Rattle.lift_flow.specs.Blocks.{size_of, StandFrom, EndsSo, block_of, is_followed, next_of, follow_of}
-use Rattle.lift_flow.proofs.Standing.{found_is}
-use Rattle.lift_flow.proofs.Unique.{block_is}
-use Rattle.lift_flow.proofs.Follows.{follow_exec}
+use Rattle.block_cut.specs.declared.ends.End.{End}
+use Rattle.block_cut.specs.declared.ends.End.TheVariants.{Transfer, Island, BeforeIsland, Unreadable, Full}
+use Rattle.block_cut.specs.Places.{Placed, found_at, inst_found}
+use Rattle.block_cut.specs.Blocks.{size_of, StandFrom, EndsSo, block_of, is_followed, next_of, follow_of}
+use Rattle.block_cut.proofs.Standing.{found_is}
+use Rattle.block_cut.proofs.Unique.{block_is}
+use Rattle.block_cut.proofs.Follows.{follow_exec}
 use Rattle.trace_file.specs.Edges.{Edge}
 use Rattle.trace_file.proofs.Union.{here, there, first_or_later}
 use Rattle.trace_file.proofs.Unique.{none}

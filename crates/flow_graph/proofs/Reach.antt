@@ -12,8 +12,8 @@ use Rattle.std.proofs.lemmas.List.{take-append-drop, take_more}
 use Rattle.std.proofs.lemmas.List.Elements.{Contains-append_left, Contains-get_or, Contains-push, Contains-push_cases}
 use Rattle.elf_read.specs.declared.exe.Exe.{Exe}
 use Rattle.elf_read.specs.Elf.{is_exec}
-use Rattle.lift_flow.specs.Blocks.{follow_of}
-use Rattle.lift_flow.proofs.Follows.{follow_exec}
+use Rattle.block_cut.specs.Blocks.{follow_of}
+use Rattle.block_cut.proofs.Follows.{follow_exec}
 use Rattle.trace_file.specs.Edges.{Edge}
 use Rattle.flow_graph.specs.Graph.{Leads, IsReached, IsStart, AreStarts, HasTooMany, IsClosed, AreLeast}
 

@@ -3,10 +3,10 @@ use Rattle.std.specs.Prelude.{◌≡◌, ℕ, zero, suc, ◌<◌, ◌==◌, Bool
 use Rattle.std.specs.List.Sorted.{IsStrictlyIncreasing}
 use Rattle.elf_read.specs.declared.exe.Exe.{Exe}
 use Rattle.elf_read.specs.Elf.{is_exec}
-use Rattle.lift_flow.specs.declared.ends.End.{End}
-use Rattle.lift_flow.specs.declared.ends.End.TheVariants.{Transfer}
-use Rattle.lift_flow.specs.Transfers.{leads_to}
-use Rattle.lift_flow.specs.Blocks.{last_of, block_of, follow_of}
+use Rattle.block_cut.specs.declared.ends.End.{End}
+use Rattle.block_cut.specs.declared.ends.End.TheVariants.{Transfer}
+use Rattle.block_cut.specs.Transfers.{leads_to}
+use Rattle.block_cut.specs.Blocks.{last_of, block_of, follow_of}
 use Rattle.trace_file.specs.Edges.{Edge}
 
 -- the pair that says that a run began

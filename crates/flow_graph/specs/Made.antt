@@ -2,7 +2,7 @@
 use Rattle.std.specs.Prelude.{◌≡◌, ℕ, zero, suc, ◌^◌, ◌<◌, ◌==◌, nat_lt, if◌then◌else◌, List, [], ◌∷◌, length, map, Option, Some, None, ◌↔◌}
 use Rattle.elf_read.specs.declared.exe.Exe.{Exe}
 use Rattle.elf_read.specs.Elf.{IsGuest}
-use Rattle.lift_flow.specs.Blocks.{follow_of}
+use Rattle.block_cut.specs.Blocks.{follow_of}
 use Rattle.trace_file.specs.Edges.{Edge}
 use Rattle.flow_graph.specs.Graph.{counting, known_of, AreStarts, HasTooMany, Node, starts_in, IsGraph}
 

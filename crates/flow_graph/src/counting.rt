@@ -5,7 +5,7 @@ ghost use Rattle.trace_file.specs.Edges.{Edge};
 ghost use Rattle.flow_graph.specs.Graph.{counts, counting};
 
 use elf_read::{Exe, in_exec};
-use lift_flow::leads;
+use block_cut::leads;
 use std::alloc::{AllocError, Global};
 
 #[tactic(auto, unfolding(crate::specs::Graph::counts))]

@@ -2,13 +2,13 @@
 ghost use Rattle.std.specs.Prelude.{◌≡◌, ◌+◌, ◌<◌, ◌≤◌, ◌^◌, ◌++◌, IsTrue, List, ℕ, ◌-◌, IfOk, All, option_to_list, length, map, vec_len, true};
 ghost use Rattle.elf_read.specs.Elf.{IsGuest, is_exec};
 ghost use Rattle.trace_file.specs.Edges.{Edge, ascends};
-ghost use Rattle.lift_flow.specs.Blocks.{follow_of};
+ghost use Rattle.block_cut.specs.Blocks.{follow_of};
 ghost use Rattle.flow_graph.specs.Graph.{targets_from, known_of};
 ghost use Rattle.flow_graph.specs.Rows.{Holds, Gains, IsMade, AreMade};
 
 use crate::exits::first_at;
 use elf_read::Exe;
-use lift_flow::{End, cut, following_start};
+use block_cut::{End, cut, following_start};
 use std::alloc::{AllocError, Global};
 
 /// A block: its start, and where its known exits stand among all targets.

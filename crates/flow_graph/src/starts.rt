@@ -3,14 +3,14 @@ ghost use Rattle.std.specs.Prelude.{◌≡◌, ℕ, ◌<◌, ◌≤◌, ◌⊎�
 ghost use Rattle.std.specs.Ordering.{nat_cmp};
 ghost use Rattle.std.specs.BTreeSet.{contains, btree_set_len, IsOrdered};
 ghost use Rattle.elf_read.specs.Elf.{IsGuest, is_exec};
-ghost use Rattle.lift_flow.specs.Blocks.{follow_of};
+ghost use Rattle.block_cut.specs.Blocks.{follow_of};
 ghost use Rattle.trace_file.specs.Edges.{Edge};
 ghost use Rattle.flow_graph.specs.Graph.{IsReached, AreStarts, HasTooMany};
 ghost use Rattle.flow_graph.specs.declared.error.GraphError.TheVariants.{Blocks};
 
 use crate::error::GraphError;
 use elf_read::Exe;
-use lift_flow::following_start;
+use block_cut::following_start;
 use std::alloc::{AllocError, Global};
 use std::collections::BTreeSet;
 

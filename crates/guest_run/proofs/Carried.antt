@@ -4,16 +4,16 @@ use Rattle.br_word.specs.declared.types.GuestFault.{GuestFault}
 use Rattle.br_word.specs.declared.types.GuestFault.TheVariants.{Access, Illegal, Divide}
 use Rattle.br_word.specs.Words.{bit}
 use Rattle.br_word.specs.State as state
-use Rattle.br_word.specs.State.{State, Stop, Running, Exited, Faulted, Flag}
+use Rattle.br_word.specs.State.{State, RunState, Running, Exited, Faulted, Flag}
 use Rattle.ia_inst.specs.declared.inst.Inst.{Inst}
 use Rattle.ia_inst.specs.declared.inst.Inst.TheVariants as inst
 use Rattle.ia_inst.specs.Canonical.{valid_of}
 use Rattle.guest_run.specs.declared.advance.Code.TheVariants as code
-use Rattle.ia_inst.specs.Act.{End, Next, Denied, Divided, Called, perform}
+use Rattle.ia_inst.specs.Act.{Completion, Next, Denied, Divided, Called, perform}
 use Rattle.ia_inst.specs.Meaning.{meaning}
 use Rattle.ia_inst.specs.Kinds.{flags_read}
-use Rattle.ia_inst.specs.System.{Way, On, Bad}
-use Rattle.ia_inst.specs.Step.{Found, NoCode, NoInst, There, way_of, place_of, settled, asked_at}
+use Rattle.ia_inst.specs.System.{StepResult, On, Bad}
+use Rattle.ia_inst.specs.Step.{Found, NoCode, NoInst, There, result_of, next_eip, settled, asked_at}
 use Rattle.ia_inst.proofs.Asked.{asked_is_read}
 use Rattle.guest_mem.specs.View.{MemoryView}
 use Rattle.ia_meaning.specs.declared.cpu.Cpu.{Cpu}
@@ -36,7 +36,7 @@ pub passes_none : (t : State) (v : Streams) → Tells t.input v.input → t.out 
 passes_none t v told out err = record { input = leaves_same v.input t.input told; out = gains_none v.out t.out out; err = gains_none v.err t.err err }
 
 -- the expectation of an instruction that goes this way
-abbrev pub of_inst : Inst → ℕ → State → Way → Expected
+abbrev pub of_inst : Inst → ℕ → State → StepResult → Expected
 of_inst i n s w = record {
   after = settled w s;
   edge = first_edge (edge_by (is_transfer i) w s.eip);
@@ -48,10 +48,10 @@ undefined_is : (i : Inst) (n : ℕ) (left : List ℕ) (u : Cpu) (m : MemoryView)
 undefined_is i n left u m = ap (λ fs. bit (some_unmarked fs u.known)) (sym (asked_is_read i n u.regs u.eip u.df u.flags m.regions))
 
 -- the state of a processor and a memory that are known by their parts
-abbrev joined : state.Cpu → ℕ → MemoryView → State
+abbrev joined : state.Processor → ℕ → MemoryView → State
 joined c eip m = record { eip = eip; cpu = c; regions = m.regions; brk_start = m.brk_start; brk = m.brk; input = []; out = []; err = []; stop = Running }
 
-joined_is : (v : Cpu) (n : MemoryView) (c : state.Cpu) (eip : ℕ) (m : MemoryView) → view v ≡ c → v.eip ≡ eip → n ≡ m → state_of v n ≡ joined c eip m
+joined_is : (v : Cpu) (n : MemoryView) (c : state.Processor) (eip : ℕ) (m : MemoryView) → view v ≡ c → v.eip ≡ eip → n ≡ m → state_of v n ≡ joined c eip m
 joined_is v n c eip m a b d = ap (λ x. joined x v.eip n) a ∙ (ap (λ y. joined c y n) b ∙ ap (λ z. joined c eip z) d)
 
 edge_on : (b : Bool) (at to : ℕ) (t : State) → to ≡ t.eip → edge_if b at to ≡ first_edge (edge_by b (On t) at)
@@ -63,12 +63,12 @@ edge_bad true at f = refl
 edge_bad false at f = refl
 
 -- what an instruction that goes on comes to
-next_at : (i : Inst) (k c : ℕ) (left : List ℕ) (u v : Cpu) (m n : MemoryView) (b : Streams) (e : End) → Tells left b.input → Comes e outcome.Next u m v n → v.undefined ≡ u.undefined + bit (some_unmarked (flags_read i) u.known)
-    → Advances (fed left (state_of u m)) (of_inst i k (fed left (state_of u m)) (way_of e (fed left (state_of u m)))) (record { stop = answers.Budget; edge = edge_if (is_transfer i) u.eip v.eip }) (record { cpu = u; memory = m; streams = b }) (record { cpu = v; memory = n; streams = b })
+next_at : (i : Inst) (k c : ℕ) (left : List ℕ) (u v : Cpu) (m n : MemoryView) (b : Streams) (e : Completion) → Tells left b.input → Comes e outcome.Next u m v n → v.undefined ≡ u.undefined + bit (some_unmarked (flags_read i) u.known)
+    → Advances (fed left (state_of u m)) (of_inst i k (fed left (state_of u m)) (result_of e (fed left (state_of u m)))) (record { stop = answers.Budget; edge = edge_if (is_transfer i) u.eip v.eip }) (record { cpu = u; memory = m; streams = b }) (record { cpu = v; memory = n; streams = b })
 next_at i k c left u v m n b (Next w rs to) told h un = record {
   stop = refl;
-  edge = edge_on (is_transfer i) u.eip v.eip (record (fed left (state_of u m)) { eip = place_of to u.eip; cpu = w; regions = rs }) h.1;
-  state = joined_is v n w (place_of to u.eip) (record m { regions = rs }) h.0 h.1 h.2;
+  edge = edge_on (is_transfer i) u.eip v.eip (record (fed left (state_of u m)) { eip = next_eip to u.eip; cpu = w; regions = rs }) h.1;
+  state = joined_is v n w (next_eip to u.eip) (record m { regions = rs }) h.0 h.1 h.2;
   undefined = un ∙ ap (λ d. u.undefined + d) (undefined_is i k left u m);
   more = 0;
   few = omega arith;
@@ -79,8 +79,8 @@ next_at i k c left u v m n b (Denied at) told h un = absurd h
 next_at i k c left u v m n b Divided told h un = absurd h
 next_at i k c left u v m n b (Called x) told h un = absurd h
 
-fault_at : (i : Inst) (k c : ℕ) (left : List ℕ) (u v : Cpu) (m n : MemoryView) (b : Streams) (f : GuestFault) (e : End) → Tells left b.input → Comes e (outcome.Fault f) u m v n → v.undefined ≡ u.undefined + bit (some_unmarked (flags_read i) u.known)
-    → Advances (fed left (state_of u m)) (of_inst i k (fed left (state_of u m)) (way_of e (fed left (state_of u m)))) (record { stop = answers.Fault f; edge = None }) (record { cpu = u; memory = m; streams = b }) (record { cpu = v; memory = n; streams = b })
+fault_at : (i : Inst) (k c : ℕ) (left : List ℕ) (u v : Cpu) (m n : MemoryView) (b : Streams) (f : GuestFault) (e : Completion) → Tells left b.input → Comes e (outcome.Fault f) u m v n → v.undefined ≡ u.undefined + bit (some_unmarked (flags_read i) u.known)
+    → Advances (fed left (state_of u m)) (of_inst i k (fed left (state_of u m)) (result_of e (fed left (state_of u m)))) (record { stop = answers.Fault f; edge = None }) (record { cpu = u; memory = m; streams = b }) (record { cpu = v; memory = n; streams = b })
 fault_at i k c left u v m n b f (Next w rs to) told h un = absurd h
 fault_at i k c left u v m n b f (Called x) told h un = absurd h
 fault_at i k c left u v m n b f (Denied at) told h un = record {
@@ -158,7 +158,7 @@ trap_is : (i : Inst) → is_trap i ≡ true → i ≡ inst.Int80
 trap_is inst.Int80 e = refl
 trap_is i e = absurd (cc)
 
-comes_called : (e : End) (u v : Cpu) (m n : MemoryView) → Comes e outcome.Trap u m v n → (k : ℕ) × (e ≡ Called k)
+comes_called : (e : Completion) (u v : Cpu) (m n : MemoryView) → Comes e outcome.Trap u m v n → (k : ℕ) × (e ≡ Called k)
 comes_called (Next w rs to) u v m n h = absurd h
 comes_called (Denied at) u v m n h = absurd h
 comes_called Divided u v m n h = absurd h
@@ -166,7 +166,7 @@ comes_called (Called k) u v m n h = (k, refl)
 
 cpu_is : (v u : Cpu) → view v ≡ view u → v.undefined ≡ u.undefined → (let w : Cpu = record v { eip = u.eip } in w) ≡ u
 cpu_is v u a b =
-    let f : state.Cpu → ℕ → Cpu = λ c n. record { regs = c.regs; eip = u.eip; flags = c.flags; df = c.df; known = c.marks; undefined = n } in
+    let f : state.Processor → ℕ → Cpu = λ c n. record { regs = c.regs; eip = u.eip; flags = c.flags; df = c.df; known = c.marks; undefined = n } in
     ap (λ c. f c v.undefined) a ∙ ap (λ n. f (view u) n) b
 
 int80_carries : (k c : ℕ) (u v : Cpu) (m n : MemoryView) (b : Streams) (r : Result Advanced SysError) (new : Machine)

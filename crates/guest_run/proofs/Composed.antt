@@ -2,8 +2,8 @@
 use Rattle.std.proofs.Common.{◌≡◌, ℕ, zero, suc, ◌+◌, ◌≤◌, List, [], ◌∷◌, ◌++◌, drop, Option, Some, None, IfSome, refl, sym, ◌∙◌, ap, subst, arith, append_assoc, option_map}
 use Rattle.std.proofs.lemmas.List.{append-nil}
 use Rattle.br_word.specs.Words.{bit}
-use Rattle.br_word.specs.State.{State, Stop, Running, Exited, Faulted}
-use Rattle.ia_inst.specs.Step.{unless_stopped, settled, step_way, step}
+use Rattle.br_word.specs.State.{State, RunState, Running, Exited, Faulted}
+use Rattle.ia_inst.specs.Step.{unless_stopped, settled, step_result, step}
 use Rattle.br_outside.specs.Outside.{StreamView}
 use Rattle.guest_sys.specs.Streams.{Streams, WasGiven, Leaves, Gains}
 use Rattle.guest_sys.specs.Machine.{fed, bare}
@@ -58,22 +58,22 @@ steady_of t m a b p = record { input = p.input.steady; out = p.out.steady; err =
 
 -- ---- a guest that has stopped
 
-running_none : {A : Type 0} (x : Stop) (go stay : A) → (x ≡ Running → ⊥) → while_running x go stay ≡ stay
+running_none : {A : Type 0} (x : RunState) (go stay : A) → (x ≡ Running → ⊥) → while_running x go stay ≡ stay
 running_none Running go stay h = absurd (h refl)
 running_none (Exited n) go stay h = refl
 running_none (Faulted f) go stay h = refl
 
-pub running_some : {A : Type 0} (x : Stop) (go stay : A) → x ≡ Running → while_running x go stay ≡ go
+pub running_some : {A : Type 0} (x : RunState) (go stay : A) → x ≡ Running → while_running x go stay ≡ go
 running_some x go stay h = ap (λ y. while_running y go stay) h
 
-unless_none : (x : Stop) (s t : State) → (x ≡ Running → ⊥) → unless_stopped x s t ≡ s
+unless_none : (x : RunState) (s t : State) → (x ≡ Running → ⊥) → unless_stopped x s t ≡ s
 unless_none Running s t h = absurd (h refl)
 unless_none (Exited n) s t h = refl
 unless_none (Faulted f) s t h = refl
 
 step_none : (s : State) → (s.stop ≡ Running → ⊥) → step s 0 ≡ s
 unfolding step
-step_none s h = unless_none s.stop s (settled (step_way s 0) s) h
+step_none s h = unless_none s.stop s (settled (step_result s 0) s) h
 
 pub run_none : (n : ℕ) (s : State) → (s.stop ≡ Running → ⊥) → run n s [] ≡ s
 run_none zero s h = refl
@@ -93,7 +93,7 @@ edge_none (suc n) s d h = running_none s.stop _ d h
 
 -- ---- the run of a state that has come to t by its first step
 
-running_le : (x : Stop) (k : ℕ) → while_running x k 0 ≤ k
+running_le : (x : RunState) (k : ℕ) → while_running x k 0 ≤ k
 running_le Running k = omega arith
 running_le (Exited n) k = omega arith
 running_le (Faulted f) k = omega arith
@@ -165,13 +165,13 @@ stops r n more s g h a b c run_s stopped le p d =
 pub run_more : (r : answer.Stop) (n more : ℕ) (s : State) (g h : GuestView) (a b c : Streams) → s.stop ≡ Running → more ≤ ahead (step s 0)
     → Passes (step s 0) more a b → RunDone r n (fed (drop more (step s 0).input) (bare (step s 0))) (stepped g s 0 (step s 0)) h b c → RunDone r (suc n) s g h a c
 run_more r n more s g h a b c run_s le p d = go (step s 0).stop refl where
-  at_end : (x : Stop) → (step s 0).stop ≡ x → spare x (asks_next (step s 0)) ≡ 0 → RunDone r (suc n) s g h a c
+  at_end : (x : RunState) → (step s 0).stop ≡ x → spare x (asks_next (step s 0)) ≡ 0 → RunDone r (suc n) s g h a c
   at_end x e z =
       let none : more ≡ 0 = omega (arith, le, ap (λ y. spare y (asks_next (step s 0))) e, z) in
       let P : ℕ → Type 0 = λ k. Passes (step s 0) k a b → RunDone r n (fed (drop k (step s 0).input) (bare (step s 0))) (stepped g s 0 (step s 0)) h b c → RunDone r (suc n) s g h a c in
       subst P (sym none) (λ p d. goes_on r n s g h a b c run_s p d) p d
 
-  go : (x : Stop) → (step s 0).stop ≡ x → RunDone r (suc n) s g h a c
+  go : (x : RunState) → (step s 0).stop ≡ x → RunDone r (suc n) s g h a c
   go Running e = at_end Running e refl
   go (Exited k) e = at_end (Exited k) e refl
   go (Faulted f) e = stops r n more s g h a b c run_s (λ q. let z = sym e ∙ q in cc) le p d

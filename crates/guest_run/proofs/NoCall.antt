@@ -4,14 +4,14 @@ use Rattle.br_word.specs.declared.types.Width.{Width}
 use Rattle.br_word.specs.declared.types.Width.TheVariants.{B8, B32}
 use Rattle.br_word.specs.Memory.{Region, load, store}
 use Rattle.br_word.specs.Words.{bit}
-use Rattle.br_word.specs.State.{Cpu, flag_of}
+use Rattle.br_word.specs.State.{Processor, flag_of}
 use Rattle.ia_inst.specs.declared.inst.Rm.{Rm}
 use Rattle.ia_inst.specs.declared.inst.Rm.TheVariants.{Reg, Mem}
 use Rattle.ia_inst.specs.declared.inst.Src.{Src}
 use Rattle.ia_inst.specs.declared.inst.Src.TheVariants as src
 use Rattle.ia_inst.specs.declared.inst.Inst.{Inst}
 use Rattle.ia_inst.specs.declared.inst.Inst.TheVariants as inst
-use Rattle.ia_inst.specs.Act.{Act, Load, Store, Ask, Divides, Calls, Ends, Past, To, End, Called, perform, or_denied}
+use Rattle.ia_inst.specs.Act.{Act, Load, Store, Ask, Divides, Calls, Ends, Past, To, Completion, Called, perform, or_denied}
 use Rattle.ia_inst.specs.Wide.{quotient, signed_quotient}
 use Rattle.ia_inst.specs.Meaning.{wrap, of_rm, of_src, to_rm, with_carry, even_condition, condition, muldiv, divides, pair_of, iterated, is_over, no_changes, meaning}
 use Rattle.guest_run.specs.Guest.{is_trap}
@@ -103,12 +103,12 @@ no_call inst.Sahf n regs eip df e = tt
 no_call inst.Nop n regs eip df e = tt
 no_call inst.Int80 n regs eip df e = absurd (cc)
 
-not_called : {X : Type 0} (at : ℕ) (o : Option X) (go : X → End) (k : ℕ) → ((x : X) → go x ≡ Called k → ⊥) → or_denied at o go ≡ Called k → ⊥
+not_called : {X : Type 0} (at : ℕ) (o : Option X) (go : X → Completion) (k : ℕ) → ((x : X) → go x ≡ Called k → ⊥) → or_denied at o go ≡ Called k → ⊥
 not_called at None go k h e = cc
 not_called at (Some x) go k h e = h x e
 
 -- an act without a call does not come to one
-pub never_called : (a : Act) (c : ℕ) (u : Cpu) (rs : List Region) (k : ℕ) → NoCall a → perform a c u rs ≡ Called k → ⊥
+pub never_called : (a : Act) (c : ℕ) (u : Processor) (rs : List Region) (k : ℕ) → NoCall a → perform a c u rs ≡ Called k → ⊥
 never_called (Load at n f) c u rs k h e = not_called at (load at n rs) (λ v. perform (f v) c u rs) k (λ v q. never_called (f v) c u rs k (h v) q) e
 never_called (Store at n v a) c u rs k h e = not_called at (store at n v rs) (λ ss. perform a c u ss) k (λ ss q. never_called a c u ss k h q) e
 never_called (Ask f g) c u rs k h e = never_called (g (flag_of f u.flags)) c u rs k (h (flag_of f u.flags)) e
@@ -116,7 +116,7 @@ never_called Divides c u rs k h e = cc
 never_called (Calls n) c u rs k h e = h
 never_called (Ends regs df ch to) c u rs k h e = cc
 
-pub called_traps : (i : Inst) (n : ℕ) (regs : List ℕ) (eip : ℕ) (df : Bool) (c : ℕ) (u : Cpu) (rs : List Region) (k : ℕ) → perform (meaning i n regs eip df) c u rs ≡ Called k → is_trap i ≡ true
+pub called_traps : (i : Inst) (n : ℕ) (regs : List ℕ) (eip : ℕ) (df : Bool) (c : ℕ) (u : Processor) (rs : List Region) (k : ℕ) → perform (meaning i n regs eip df) c u rs ≡ Called k → is_trap i ≡ true
 called_traps i n regs eip df c u rs k e = go (is_trap i) refl where
   go : (b : Bool) → is_trap i ≡ b → b ≡ true
   go true h = refl

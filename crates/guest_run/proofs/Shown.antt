@@ -2,11 +2,11 @@
 use Rattle.std.proofs.Common.{◌≡◌, ℕ, zero, suc, ◌+◌, Bool, true, false, if◌then◌else◌, List, [], ◌++◌, Option, Some, None, refl, sym, ◌∙◌, ap, append_assoc, get_or, take, drop, length, map, nat_eq, nat_le, ◌&&◌, ◌-◌, ◌^◌}
 use Rattle.std.proofs.lemmas.List.{append-nil}
 use Rattle.br_word.specs.Words.{bit}
-use Rattle.br_word.specs.State.{State, Stop, Running, Exited, Faulted}
-use Rattle.ia_inst.specs.Act.{End, Next, Denied, Divided, Called, perform}
+use Rattle.br_word.specs.State.{State, RunState, Running, Exited, Faulted}
+use Rattle.ia_inst.specs.Act.{Completion, Next, Denied, Divided, Called, perform}
 use Rattle.br_word.specs.Memory.{Region, resized}
-use Rattle.ia_inst.specs.System.{Way, On, Bad, or_bad, answers, buffer, filled, call_exit, call_read, call_write, call_brk, system}
-use Rattle.ia_inst.specs.Step.{Found, NoCode, NoInst, There, found, act_of, way_of, way_at, settled, unless_stopped, asked_at, step}
+use Rattle.ia_inst.specs.System.{StepResult, On, Bad, or_bad, answers, buffer, filled, call_exit, call_read, call_write, call_brk, system}
+use Rattle.ia_inst.specs.Step.{Found, NoCode, NoInst, There, found, act_of, result_of, result_at, settled, unless_stopped, asked_at, step}
 use Rattle.ia_meaning.specs.Effect.{some_unmarked}
 use Rattle.guest_sys.specs.Calls.{spare}
 use Rattle.guest_sys.specs.Machine.{fed, bare}
@@ -18,7 +18,7 @@ use Rattle.guest_run.specs.Guest.{first_edge, reads_undefined, traps, asks_by, a
 abbrev pub shown : List ℕ → List ℕ → State → State
 shown w e s = record s { out = w ++ s.out; err = e ++ s.err }
 
-abbrev pub way_shown : List ℕ → List ℕ → Way → Way
+abbrev pub way_shown : List ℕ → List ℕ → StepResult → StepResult
 way_shown w e (On t) = On (shown w e t)
 way_shown w e (Bad f) = Bad f
 
@@ -48,7 +48,7 @@ brk_shown : (w e : List ℕ) (s : State) (next to : ℕ) (rs : List Region) (b :
 brk_shown w e s next to rs true = refl
 brk_shown w e s next to rs false = refl
 
-choose_shown : (w e : List ℕ) (p q r t : Bool) (a b c d f a' b' c' d' f' : Way)
+choose_shown : (w e : List ℕ) (p q r t : Bool) (a b c d f a' b' c' d' f' : StepResult)
     → a ≡ way_shown w e a' → b ≡ way_shown w e b' → c ≡ way_shown w e c' → d ≡ way_shown w e d' → f ≡ way_shown w e f'
     → (if p then a else if q then b else if r then c else if t then d else f) ≡ way_shown w e (if p then a' else if q then b' else if r then c' else if t then d' else f')
 choose_shown w e true q r t a b c d f a' b' c' d' f' u v x y z = u
@@ -73,22 +73,22 @@ system_shown next w e s =
     (brk_shown w e s next d (map (resized s.brk_start (d - s.brk_start)) s.regions) (nat_le s.brk_start d && nat_le d (s.brk_start + 67108864)))
     refl
 
-end_shown : (x : End) (w e : List ℕ) (s : State) → way_of x (shown w e s) ≡ way_shown w e (way_of x s)
+end_shown : (x : Completion) (w e : List ℕ) (s : State) → result_of x (shown w e s) ≡ way_shown w e (result_of x s)
 end_shown (Next u rs to) w e s = refl
 end_shown (Denied at) w e s = refl
 end_shown Divided w e s = refl
 end_shown (Called n) w e s = system_shown _ w e s
 
-way_at_shown : (f : Found) (w e : List ℕ) (s : State) (c : ℕ) → way_at f (shown w e s) c ≡ way_shown w e (way_at f s c)
+way_at_shown : (f : Found) (w e : List ℕ) (s : State) (c : ℕ) → result_at f (shown w e s) c ≡ way_shown w e (result_at f s c)
 way_at_shown NoCode w e s c = refl
 way_at_shown NoInst w e s c = refl
 way_at_shown (There i n) w e s c = end_shown (perform (act_of i n s) c s.cpu s.regions) w e s
 
-settled_shown : (x : Way) (w e : List ℕ) (s : State) → settled (way_shown w e x) (shown w e s) ≡ shown w e (settled x s)
+settled_shown : (x : StepResult) (w e : List ℕ) (s : State) → settled (way_shown w e x) (shown w e s) ≡ shown w e (settled x s)
 settled_shown (On t) w e s = refl
 settled_shown (Bad f) w e s = refl
 
-unless_shown : (x : Stop) (w e : List ℕ) (s t : State) → unless_stopped x (shown w e s) (shown w e t) ≡ shown w e (unless_stopped x s t)
+unless_shown : (x : RunState) (w e : List ℕ) (s t : State) → unless_stopped x (shown w e s) (shown w e t) ≡ shown w e (unless_stopped x s t)
 unless_shown Running w e s t = refl
 unless_shown (Exited n) w e s t = refl
 unless_shown (Faulted f) w e s t = refl
@@ -96,8 +96,8 @@ unless_shown (Faulted f) w e s t = refl
 pub step_shown : (w e : List ℕ) (s : State) (c : ℕ) → step (shown w e s) c ≡ shown w e (step s c)
 unfolding step
 step_shown w e s c =
-    ap (λ t. unless_stopped s.stop (shown w e s) t) (ap (λ x. settled x (shown w e s)) (way_at_shown (found s.eip s.regions) w e s c) ∙ settled_shown (way_at (found s.eip s.regions) s c) w e s)
-    ∙ unless_shown s.stop w e s (settled (way_at (found s.eip s.regions) s c) s)
+    ap (λ t. unless_stopped s.stop (shown w e s) t) (ap (λ x. settled x (shown w e s)) (way_at_shown (found s.eip s.regions) w e s c) ∙ settled_shown (result_at (found s.eip s.regions) s c) w e s)
+    ∙ unless_shown s.stop w e s (settled (result_at (found s.eip s.regions) s c) s)
 
 pub run_shown : (n : ℕ) (w e : List ℕ) (s : State) → run n (shown w e s) [] ≡ shown w e (run n s [])
 run_shown zero w e s = refl
@@ -126,7 +126,7 @@ pub undefined_shown : (n : ℕ) (w e : List ℕ) (s : State) → undefined_taken
 undefined_shown zero w e s = refl
 undefined_shown (suc n) w e s = ap (λ r. while_running s.stop (bit r + undefined_taken n (step (shown w e s) 0)) 0) (reads_shown w e s) ∙ ap (λ k. while_running s.stop (bit (reads_undefined s) + k) 0) (ap (λ t. undefined_taken n t) (step_shown w e s 0) ∙ undefined_shown n w e (step s 0))
 
-by_shown : (b : Bool) (x : Way) (w e : List ℕ) (at : ℕ) → edge_by b (way_shown w e x) at ≡ edge_by b x at
+by_shown : (b : Bool) (x : StepResult) (w e : List ℕ) (at : ℕ) → edge_by b (way_shown w e x) at ≡ edge_by b x at
 by_shown true (On t) w e at = refl
 by_shown true (Bad f) w e at = refl
 by_shown false x w e at = refl
@@ -134,9 +134,9 @@ by_shown false x w e at = refl
 at_shown : (f : Found) (w e : List ℕ) (s : State) (c : ℕ) → edge_at f (shown w e s) c ≡ edge_at f s c
 at_shown NoCode w e s c = refl
 at_shown NoInst w e s c = refl
-at_shown (There i n) w e s c = ap (λ x. edge_by (is_transfer i) x s.eip) (way_at_shown (found s.eip s.regions) w e s c) ∙ by_shown (is_transfer i) (way_at (found s.eip s.regions) s c) w e s.eip
+at_shown (There i n) w e s c = ap (λ x. edge_by (is_transfer i) x s.eip) (way_at_shown (found s.eip s.regions) w e s c) ∙ by_shown (is_transfer i) (result_at (found s.eip s.regions) s c) w e s.eip
 
-of_shown : (x : Stop) (w e : List ℕ) (s : State) (c : ℕ) → edge_of x (shown w e s) c ≡ edge_of x s c
+of_shown : (x : RunState) (w e : List ℕ) (s : State) (c : ℕ) → edge_of x (shown w e s) c ≡ edge_of x s c
 of_shown Running w e s c = at_shown (found s.eip s.regions) w e s c
 of_shown (Exited n) w e s c = refl
 of_shown (Faulted f) w e s c = refl

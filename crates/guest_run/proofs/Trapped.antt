@@ -1,8 +1,8 @@
 -- A system call as a step.
 use Rattle.std.proofs.Common.{◌≡◌, ℕ, true, List, [], None, Ok, Err, refl, sym, ◌∙◌, ap, subst, arith, IsTrue, ◌⊎◌, inl, inr}
 use Rattle.br_word.specs.declared.types.GuestFault.{GuestFault}
-use Rattle.br_word.specs.State.{State, Stop, Running, Exited, Faulted}
-use Rattle.ia_inst.specs.System.{Way, On, Bad, system}
+use Rattle.br_word.specs.State.{State, RunState, Running, Exited, Faulted}
+use Rattle.ia_inst.specs.System.{StepResult, On, Bad, system}
 use Rattle.ia_inst.specs.Step.{settled}
 use Rattle.br_outside.specs.Outside.{StreamView}
 use Rattle.guest_mem.specs.View.{MemoryView}
@@ -28,7 +28,7 @@ stop_as Goes = answers.Budget
 stop_as (Exit status) = answers.Exited status
 stop_as (Fault f) = answers.Fault f
 
-stop_is : (s : Stop) → stop_as (calls.answer_of s) ≡ answer_of s
+stop_is : (s : RunState) → stop_as (calls.answer_of s) ≡ answer_of s
 stop_is Running = refl
 stop_is (Exited status) = refl
 stop_is (Faulted f) = refl
@@ -39,14 +39,14 @@ IsNoFault (Exit status) = Unit {0}
 IsNoFault (Fault f) = ⊥
 
 -- the expectation of a step that goes this way
-abbrev pub of_way : State → Way → Expected
+abbrev pub of_way : State → StepResult → Expected
 of_way s w = record { after = settled w s; edge = None; undefined = 0; trap = true }
 
 abbrev stopped : answer.Stop → Advanced
 stopped stop = record { stop = stop; edge = None }
 
 -- s is the state at the instruction, and eip of u stands behind it
-done_at : (at : ℕ) (left : List ℕ) (u v : Cpu) (m n : MemoryView) (b a : Streams) (called : Called) (w : Way) → IsNoFault called
+done_at : (at : ℕ) (left : List ℕ) (u v : Cpu) (m n : MemoryView) (b a : Streams) (called : Called) (w : StepResult) → IsNoFault called
     → Does (fed left (state_of u m)) (settled w (fed left (state_of u m))) called (record { cpu = u; memory = m; streams = b }) (record { cpu = v; memory = n; streams = a })
     → Advances (fed left (state_of (record u { eip = at }) m)) (of_way (fed left (state_of (record u { eip = at }) m)) w) (stopped (stop_as called)) (record { cpu = record u { eip = at }; memory = m; streams = b }) (record { cpu = v; memory = n; streams = a })
 done_at at left u v m n b a called (On t) sound d = record {
@@ -64,11 +64,11 @@ done_at at left u v m n b a called (Bad f) sound d = absurd (subst IsNoFault d.a
 fault_same : (f g : GuestFault) → Fault f ≡ Fault g → answers.Fault f ≡ answers.Fault g
 fault_same f g e = let h : f ≡ g = cc in ap answers.Fault h
 
-no_fault : (f : GuestFault) (s : Stop) → (s ≡ Running) ⊎ ((n : ℕ) × (s ≡ Exited n)) → Fault f ≡ calls.answer_of s → ⊥
+no_fault : (f : GuestFault) (s : RunState) → (s ≡ Running) ⊎ ((n : ℕ) × (s ≡ Exited n)) → Fault f ≡ calls.answer_of s → ⊥
 no_fault f s (inl r) e = let h = e ∙ ap calls.answer_of r in cc
 no_fault f s (inr x) e = let h = e ∙ ap calls.answer_of x.1 in cc
 
-fault_at : (at : ℕ) (left : List ℕ) (u v : Cpu) (m n : MemoryView) (b a : Streams) (f : GuestFault) (w : Way) → IsDone w
+fault_at : (at : ℕ) (left : List ℕ) (u v : Cpu) (m n : MemoryView) (b a : Streams) (f : GuestFault) (w : StepResult) → IsDone w
     → Does (fed left (state_of u m)) (settled w (fed left (state_of u m))) (Fault f) (record { cpu = u; memory = m; streams = b }) (record { cpu = v; memory = n; streams = a })
     → Advances (fed left (state_of (record u { eip = at }) m)) (of_way (fed left (state_of (record u { eip = at }) m)) w) (stopped (answers.Fault f)) (record { cpu = record u { eip = at }; memory = m; streams = b }) (record { cpu = record v { eip = at }; memory = n; streams = a })
 fault_at at left u v m n b a f (On t) done d = absurd (no_fault f t.stop done d.answer)
@@ -91,7 +91,7 @@ wants Out s t b a (inr h) f = absurd (f.0.some h.0)
 wants Report s t b a (inl h) f = h
 wants Report s t b a (inr h) f = absurd (f.0.some h.1)
 
-fails_at : (at : ℕ) (e : SysError) (left : List ℕ) (u : Cpu) (m : MemoryView) (b a : Streams) (w : Way)
+fails_at : (at : ℕ) (e : SysError) (left : List ℕ) (u : Cpu) (m : MemoryView) (b a : Streams) (w : StepResult)
     → FailsAt e (fed left (state_of u m)) (settled w (fed left (state_of u m))) b a
     → FailsAt e (fed left (state_of (record u { eip = at }) m)) (settled w (fed left (state_of (record u { eip = at }) m))) b a
 fails_at at Input left u m b a w f = record { taken = f.taken; few = f.few; left = f.left; fails = f.fails; out = f.out; err = f.err }
@@ -106,7 +106,7 @@ pub trap_done : (at : ℕ) (u v : Cpu) (m n : MemoryView) (i o e j p f : StreamV
 trap_done at u v m n i o e j p f called sound c =
     let s = fed c.left (state_of u m) in
     let t = fed c.left (state_of (record u { eip = at }) m) in
-    let P : Way → Type 0 = λ w. Advances t (of_way t w) (stopped (stop_as called)) (machine (record u { eip = at }) m i o e) (machine v n j p f) in
+    let P : StepResult → Type 0 = λ w. Advances t (of_way t w) (stopped (stop_as called)) (machine (record u { eip = at }) m i o e) (machine v n j p f) in
     record { left = c.left; told = c.told; gives = subst P (sym (system_eip u.eip at s)) (done_at at c.left u v m n _ _ called (system u.eip s) sound c.gives) }
 
 pub trap_fault : (at : ℕ) (u v : Cpu) (m n : MemoryView) (i o e j p f : StreamView) (g : GuestFault)
@@ -114,7 +114,7 @@ pub trap_fault : (at : ℕ) (u v : Cpu) (m n : MemoryView) (i o e j p f : Stream
 trap_fault at u v m n i o e j p f g c =
     let s = fed c.left (state_of u m) in
     let t = fed c.left (state_of (record u { eip = at }) m) in
-    let P : Way → Type 0 = λ w. Advances t (of_way t w) (stopped (answers.Fault g)) (machine (record u { eip = at }) m i o e) (machine (record v { eip = at }) n j p f) in
+    let P : StepResult → Type 0 = λ w. Advances t (of_way t w) (stopped (answers.Fault g)) (machine (record u { eip = at }) m i o e) (machine (record v { eip = at }) n j p f) in
     record { left = c.left; told = c.told; gives = subst P (sym (system_eip u.eip at s)) (fault_at at c.left u v m n _ _ g (system u.eip s) (system_done u.eip s refl) c.gives) }
 
 pub trap_fails : (at : ℕ) (u v : Cpu) (m n : MemoryView) (i o e j p f : StreamView) (x : SysError)
@@ -122,7 +122,7 @@ pub trap_fails : (at : ℕ) (u v : Cpu) (m n : MemoryView) (i o e j p f : Stream
 trap_fails at u v m n i o e j p f x c =
     let s = fed c.left (state_of u m) in
     let t = fed c.left (state_of (record u { eip = at }) m) in
-    let P : Way → Type 0 = λ w. AdvanceFails x t (of_way t w) (machine (record u { eip = at }) m i o e) (machine (record v { eip = at }) n j p f) in
+    let P : StepResult → Type 0 = λ w. AdvanceFails x t (of_way t w) (machine (record u { eip = at }) m i o e) (machine (record v { eip = at }) n j p f) in
     record {
       left = c.left;
       told = c.told;

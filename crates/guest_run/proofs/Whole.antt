@@ -1,7 +1,7 @@
 -- A whole run, whatever it comes to.
 use Rattle.std.proofs.Common.{◌≡◌, ℕ, suc, ◌+◌, ◌≤◌, true, false, List, [], ◌++◌, length, take, drop, Option, Some, None, IfSome, Result, Ok, Err, refl, sym, ◌∙◌, ap, subst, arith, length-append}
 use Rattle.std.proofs.Math.Seq.{take-append-add}
-use Rattle.br_word.specs.State.{State, Stop, Running, Exited, Faulted}
+use Rattle.br_word.specs.State.{State, RunState, Running, Exited, Faulted}
 use Rattle.ia_inst.specs.Step.{step}
 use Rattle.br_outside.specs.Outside.{StreamView}
 use Rattle.guest_sys.specs.declared.answers.SysError.{SysError}
@@ -14,7 +14,7 @@ use Rattle.guest_sys.proofs.Done.{leaves_same, gains_none}
 use Rattle.guest_run.specs.declared.stop.Stop as answer
 use Rattle.guest_run.specs.declared.stop.Stop.TheVariants as answers
 use Rattle.run_model.specs.Run.{run}
-use Rattle.guest_run.specs.Guest.{GuestView, stop_of, asks_next, ahead, stepped, answer_of, StepDone, Steps, PartGiven, Unchanged, RunFailsAt, RunFailed, RunGives, AllSteady, OneFails, EndGives, Runs}
+use Rattle.guest_run.specs.Guest.{GuestView, stop_of, asks_next, ahead, stepped, answer_of, StepDone, StepCall, PartGiven, Unchanged, RunFailsAt, RunFailed, RunGives, AllSteady, OneFails, EndGives, Runs}
 use Rattle.guest_run.proofs.Shown.{shown, shown_bare, run_shown, step_shown}
 use Rattle.guest_run.proofs.Composed.{left_then, leaves_then, given_then, gains_then, steady_of, run_none, steps_none, undefined_none, edge_none, run_more}
 
@@ -61,13 +61,13 @@ fails_on e n s g h a b c p f =
 run_fails_more : (e : SysError) (n more : ℕ) (s : State) (g h : GuestView) (a b c : Streams) → more ≤ ahead (step s 0) → Passes (step s 0) more a b
     → RunFailed e n (fed (drop more (step s 0).input) (bare (step s 0))) (stepped g s 0 (step s 0)) h b c → RunFailed e (suc n) s g h a c
 run_fails_more e n more s g h a b c le p f = go (step s 0).stop refl where
-  at_end : (x : Stop) → (step s 0).stop ≡ x → spare x (asks_next (step s 0)) ≡ 0 → RunFailed e (suc n) s g h a c
+  at_end : (x : RunState) → (step s 0).stop ≡ x → spare x (asks_next (step s 0)) ≡ 0 → RunFailed e (suc n) s g h a c
   at_end x q z =
       let none : more ≡ 0 = omega (arith, le, ap (λ y. spare y (asks_next (step s 0))) q, z) in
       let P : ℕ → Type 0 = λ k. Passes (step s 0) k a b → RunFailed e n (fed (drop k (step s 0).input) (bare (step s 0))) (stepped g s 0 (step s 0)) h b c → RunFailed e (suc n) s g h a c in
       subst P (sym none) (λ p f. fails_on e n s g h a b c p f) p f
 
-  go : (x : Stop) → (step s 0).stop ≡ x → RunFailed e (suc n) s g h a c
+  go : (x : RunState) → (step s 0).stop ≡ x → RunFailed e (suc n) s g h a c
   go Running q = at_end Running q refl
   go (Exited k) q = at_end (Exited k) q refl
   go (Faulted x) q =
@@ -107,7 +107,7 @@ gives_more r n left g k h a b c d w told =
     whole (Ok x) y = run_more x n d.more (fed left g.state) g h a b c d.running d.few d.streams y
     whole (Err e) y = run_fails_more e n d.more (fed left g.state) g h a b c d.few d.streams y
 
-pub runs_more : (r : Result answer.Stop SysError) (n : ℕ) (g k h : GuestView) (a b c : Streams) → Steps (Ok true) 0 g k a b → Runs r n k h b c → Runs r (suc n) g h a c
+pub runs_more : (r : Result answer.Stop SysError) (n : ℕ) (g k h : GuestView) (a b c : Streams) → StepCall (Ok true) 0 g k a b → Runs r n k h b c → Runs r (suc n) g h a c
 runs_more r n g k h a b c d w = record {
   ends = ends_more r n g k h a b c (ap (λ (x : GuestView). x.steps) d.gives.guest) (steady_of _ _ a b d.gives.streams) w.ends;
   told = go a.input.bytes refl d.told;
@@ -199,7 +199,7 @@ one_now Out u v a c f = (f.0.fails, steady_is a.input c.input f.1, steady_is a.e
 one_now Report u v a c f = (f.0.fails, steady_is a.input c.input f.1, steady_is a.out c.out f.2)
 one_now Memory u v a c f = record { input = f.input.steady; out = f.out.steady; err = f.err.steady }
 
-pub runs_failed : (e : SysError) (n : ℕ) (g h : GuestView) (a c : Streams) → g.state ≡ bare g.state → Steps (Err e) 0 g h a c → Runs (Err e) (suc n) g h a c
+pub runs_failed : (e : SysError) (n : ℕ) (g h : GuestView) (a c : Streams) → g.state ≡ bare g.state → StepCall (Err e) 0 g h a c → Runs (Err e) (suc n) g h a c
 runs_failed e n g h a c is d = record {
   ends = record {
     live = ap (λ (x : GuestView). x.live) d.gives.guest;
@@ -232,24 +232,24 @@ again answers.Budget = refl
 again (answers.Exited n) = refl
 again (answers.Fault f) = refl
 
-answers_as : (x : answer.Stop) (s : Stop) (n : ℕ) (g h : GuestView) (a b : Streams) → stop_of x ≡ s → Runs (Ok (answer_of s)) n g h a b → Runs (Ok x) n g h a b
+answers_as : (x : answer.Stop) (s : RunState) (n : ℕ) (g h : GuestView) (a b : Streams) → stop_of x ≡ s → Runs (Ok (answer_of s)) n g h a b → Runs (Ok x) n g h a b
 answers_as x s n g h a b e w = let P : answer.Stop → Type 0 = λ y. Runs (Ok y) n g h a b in subst P (ap answer_of (sym e) ∙ again x) w
 
 pub runs_end : (x : answer.Stop) (g : GuestView) (a : Streams) → g.live ≡ true → g.state ≡ bare g.state → stop_of x ≡ g.state.stop → Runs (Ok x) 0 g g a a
 runs_end x g a live is e = answers_as x g.state.stop 0 g g a a e (runs_none g a live is)
 
-pub runs_idle : (x : answer.Stop) (n : ℕ) (g h : GuestView) (a b : Streams) → Steps (Ok false) 0 g h a b → g.live ≡ true → g.state ≡ bare g.state → stop_of x ≡ h.state.stop → Runs (Ok x) n g h a b
+pub runs_idle : (x : answer.Stop) (n : ℕ) (g h : GuestView) (a b : Streams) → StepCall (Ok false) 0 g h a b → g.live ≡ true → g.state ≡ bare g.state → stop_of x ≡ h.state.stop → Runs (Ok x) n g h a b
 runs_idle x n g h a b d live is e =
     let P : GuestView → Type 0 = λ h. Runs (Ok x) n g h a b in
     let Q : Streams → Type 0 = λ b. Runs (Ok x) n g g a b in
     subst P (sym d.gives.guest) (subst Q (sym d.gives.streams)
     (answers_as x g.state.stop n g g a a (e ∙ ap (λ (y : GuestView). y.state.stop) d.gives.guest) (runs_stopped n g a live is d.gives.stopped)))
 
-pub done_live : (c : ℕ) (g h : GuestView) (a b : Streams) → Steps (Ok true) c g h a b → h.live ≡ true
+pub done_live : (c : ℕ) (g h : GuestView) (a b : Streams) → StepCall (Ok true) c g h a b → h.live ≡ true
 done_live c g h a b d = ap (λ (y : GuestView). y.live) d.gives.guest
 
-pub done_steps : (c : ℕ) (g h : GuestView) (a b : Streams) → Steps (Ok true) c g h a b → h.steps ≡ g.steps + 1
+pub done_steps : (c : ℕ) (g h : GuestView) (a b : Streams) → StepCall (Ok true) c g h a b → h.steps ≡ g.steps + 1
 done_steps c g h a b d = ap (λ (y : GuestView). y.steps) d.gives.guest
 
-pub done_bare : (c : ℕ) (g h : GuestView) (a b : Streams) → Steps (Ok true) c g h a b → h.state ≡ bare h.state
+pub done_bare : (c : ℕ) (g h : GuestView) (a b : Streams) → StepCall (Ok true) c g h a b → h.state ≡ bare h.state
 done_bare c g h a b d = ap (λ (y : GuestView). y.state) d.gives.guest ∙ sym (ap (λ (y : GuestView). bare y.state) d.gives.guest)

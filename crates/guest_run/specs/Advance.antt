@@ -4,7 +4,7 @@ use Rattle.br_word.specs.Words.{bit}
 use Rattle.br_word.specs.State.{State, Running}
 use Rattle.ia_inst.specs.Canonical.{valid_of}
 use Rattle.ia_inst.specs.System.{system}
-use Rattle.ia_inst.specs.Step.{Found, NoCode, NoInst, There, way_at, settled, asked_at}
+use Rattle.ia_inst.specs.Step.{Found, NoCode, NoInst, There, result_at, settled, asked_at}
 use Rattle.ia_meaning.specs.Effect.{some_unmarked}
 use Rattle.guest_sys.specs.declared.answers.SysError.{SysError}
 use Rattle.guest_sys.specs.Streams.{Tells}
@@ -55,12 +55,12 @@ AdvanceGives (Err e) s x old new = AdvanceFails e s x old new
 abbrev pub edge_by_found : Found → State → ℕ → List Edge
 edge_by_found NoCode s c = []
 edge_by_found NoInst s c = []
-edge_by_found (There i n) s c = edge_by (is_transfer i) (way_at (There i n) s c) s.eip
+edge_by_found (There i n) s c = edge_by (is_transfer i) (result_at (There i n) s c) s.eip
 
 -- what a step does that finds this at eip
 abbrev pub expected : Found → State → ℕ → Expected
 expected f s c = record {
-  after = settled (way_at f s c) s;
+  after = settled (result_at f s c) s;
   edge = first_edge (edge_by_found f s c);
   undefined = bit (some_unmarked (asked_at f s) s.cpu.marks);
   trap = traps_at f;

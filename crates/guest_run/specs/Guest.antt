@@ -1,7 +1,7 @@
 -- What a guest is seen as, and what a step and a run do to it and to its streams.
 use Rattle.std.specs.Prelude.{◌≡◌, ℕ, zero, suc, ◌+◌, ◌<◌, ◌≤◌, Bool, true, false, IsTrue, List, [], ◌∷◌, take, drop, length, Option, Some, None, IfSome, Result, Ok, Err}
 use Rattle.br_word.specs.Words.{bit}
-use Rattle.br_word.specs.State.{State, Stop, Running, Exited, Faulted}
+use Rattle.br_word.specs.State.{State, RunState, Running, Exited, Faulted}
 use Rattle.ia_inst.specs.declared.inst.Inst.{Inst}
 use Rattle.ia_inst.specs.declared.inst.Inst.TheVariants.{Int80}
 use Rattle.ia_inst.specs.Step.{Found, NoCode, NoInst, There, found, step, asked_at}
@@ -35,7 +35,7 @@ pub record GuestView : Type 0 where
 abbrev pub streams : StreamView → StreamView → StreamView → Streams
 streams i o e = record { input = i; out = o; err = e }
 
-abbrev pub stop_of : answer.Stop → Stop
+abbrev pub stop_of : answer.Stop → RunState
 stop_of answers.Budget = Running
 stop_of (answers.Exited status) = Exited status
 stop_of (answers.Fault f) = Faulted f
@@ -132,14 +132,14 @@ StepGives (Ok false) s c g h before after = NoStep s g h before after
 StepGives (Err e) s c g h before after = StepFailed e s c g h before after
 
 -- a step of a guest, with what the input has left, where it tells
-pub record Steps (result : Result Bool SysError) (c : ℕ) (g h : GuestView) (before after : Streams) : Type 0 where
+pub record StepCall (result : Result Bool SysError) (c : ℕ) (g h : GuestView) (before after : Streams) : Type 0 where
   pub left : List ℕ
   pub told : Tells left before.input
   pub gives : StepGives result (fed left g.state) c g h before after
 
 -- ---- a run
 
-abbrev pub while_running : {A : Type 0} → Stop → A → A → A
+abbrev pub while_running : {A : Type 0} → RunState → A → A → A
 while_running Running go stay = go
 while_running (Exited n) go stay = stay
 while_running (Faulted f) go stay = stay
@@ -159,7 +159,7 @@ abbrev pub edge_after : ℕ → State → Option Edge → Option Edge
 edge_after zero s e = e
 edge_after (suc n) s e = while_running s.stop (edge_after n (step s 0) (first_edge (edge_of s.stop s 0))) e
 
-abbrev pub answer_of : Stop → answer.Stop
+abbrev pub answer_of : RunState → answer.Stop
 answer_of Running = answers.Budget
 answer_of (Exited status) = answers.Exited status
 answer_of (Faulted f) = answers.Fault f

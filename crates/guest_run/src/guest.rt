@@ -4,7 +4,7 @@ ghost use Rattle.elf_read.specs.Elf.{IsGuest};
 ghost use Rattle.br_word.specs.State.{all_flags};
 ghost use Rattle.guest_sys.specs.Streams.{Streams};
 ghost use Rattle.run_model.specs.Opening.{FitArguments};
-ghost use Rattle.guest_run.specs.Guest.{Steps, Runs, beginning, streams, answer_of};
+ghost use Rattle.guest_run.specs.Guest.{StepCall, Runs, beginning, streams, answer_of};
 
 use crate::advance::advance;
 use crate::opening::{stack_pointer, stack_top};
@@ -157,7 +157,7 @@ impl Guest {
     ) -> Result<bool, SysError>
         requires live { self.old.live ≡ true }
         requires room { self.old.steps < 10 ^ 18 }
-        ensures { Steps result choice self.old self.new (streams (I.seen input.old) (O.seen out.old) (E.seen err.old)) (streams (I.seen input.new) (O.seen out.new) (E.seen err.new)) }
+        ensures { StepCall result choice self.old self.new (streams (I.seen input.old) (O.seen out.old) (E.seen err.old)) (streams (I.seen input.new) (O.seen out.new) (E.seen err.new)) }
     {
         if !is_running(self.stop) {
             return Ok(false);

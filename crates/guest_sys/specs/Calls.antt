@@ -1,6 +1,6 @@
 -- What a system call does to a machine, by the definition of the call.
-use Rattle.std.specs.Prelude.{◌≡◌, ℕ, ◌<◌, ◌≤◌, Bool, ◌&&◌, ◌||◌, nat_eq, if◌then◌else◌, IsTrue, List, [], get_or, take, drop, IsSome, Result, Ok, Err}
-use Rattle.br_word.specs.State.{State, Stop, Running, Exited, Faulted}
+use Rattle.std.specs.Prelude.{◌≡◌, ℕ, ◌<◌, ◌≤◌, Bool, ◌&&◌, ◌||◌, nat_eq, if◌then◌else◌, IsTrue, List, [], take, drop, IsSome, Result, Ok, Err}
+use Rattle.br_word.specs.State.{State, RunState, Running, Exited, Faulted, eax, ecx, edx, ebx}
 use Rattle.br_outside.specs.Outside.{StreamView}
 use Rattle.ia_inst.specs.Step.{settled}
 use Rattle.ia_inst.specs.System.{system, filled}
@@ -13,23 +13,23 @@ use Rattle.guest_sys.specs.Machine.{Machine, state_of, fed, bare}
 
 -- how many bytes a call asks of the input: a read from descriptor 0, what edx says
 abbrev pub asks : State → ℕ
-asks s = if nat_eq (get_or s.cpu.regs 0 0) 3 && nat_eq (get_or s.cpu.regs 3 0) 0 then get_or s.cpu.regs 2 0 else 0
+asks s = if nat_eq (eax s) 3 && nat_eq (ebx s) 0 then edx s else 0
 
 -- read, write and brk are the calls that may want memory
 abbrev pub takes_memory : State → Bool
-takes_memory s = nat_eq (get_or s.cpu.regs 0 0) 3 || (nat_eq (get_or s.cpu.regs 0 0) 4 || nat_eq (get_or s.cpu.regs 0 0) 45)
+takes_memory s = nat_eq (eax s) 3 || (nat_eq (eax s) 4 || nat_eq (eax s) 45)
 
 -- the state after a call whose instruction ends at eip
 abbrev pub after_call : State → State
 after_call s = settled (system s.eip s) s
 
-abbrev pub answer_of : Stop → Called
+abbrev pub answer_of : RunState → Called
 answer_of Running = Goes
 answer_of (Exited status) = Exit status
 answer_of (Faulted f) = Fault f
 
 -- what may have been taken beyond what the state has left: by a read that faults, all that it asks for
-abbrev pub spare : Stop → ℕ → ℕ
+abbrev pub spare : RunState → ℕ → ℕ
 spare Running n = 0
 spare (Exited status) n = 0
 spare (Faulted f) n = n
@@ -48,7 +48,7 @@ pub record Does (s t : State) (called : Called) (old new : Machine) : Type 0 whe
   pub more : ℕ
   pub few : more ≤ spare t.stop (asks s)
   -- of what a read that faults has taken, all but the last byte fits
-  pub fits : (k : ℕ) → k < more → IsSome (filled (get_or s.cpu.regs 1 0) (take k s.input) s.regions)
+  pub fits : (k : ℕ) → k < more → IsSome (filled (ecx s) (take k s.input) s.regions)
   pub streams : Passes t more old.streams new.streams
   pub idle : asks s ≡ 0 → new.streams.input ≡ old.streams.input
 

@@ -2,7 +2,7 @@
 use Rattle.std.specs.Prelude.{ℕ, ◌/◌, ◌%◌, ◌^◌, nat_eq, Bool, true, false, List, [], ◌∷◌, Option, Some, None}
 use Rattle.br_word.specs.declared.types.Flags.{Flags}
 use Rattle.br_word.specs.Memory.{Region, load, store}
-use Rattle.br_word.specs.State.{Cpu, Flag, flag_of}
+use Rattle.br_word.specs.State.{Processor, Flag, flag_of}
 
 -- what becomes of a flag
 pub data Change : Type 0 where
@@ -18,12 +18,12 @@ pub record Changes : Type 0 where
   pub of : Change
 
 -- where the next instruction stands
-pub data Place : Type 0 where
+pub data NextEip : Type 0 where
   -- behind this one, of so many bytes
-  Past : ℕ → Place
+  Past : ℕ → NextEip
   -- this one again
-  Again : Place
-  To : ℕ → Place
+  Again : NextEip
+  To : ℕ → NextEip
 
 -- All that a step reads and writes. Addresses and values come from the registers, from what was
 -- loaded, and from flags that were asked for, and from nothing else.
@@ -34,7 +34,7 @@ pub data Act : Type 0 where
   Divides : Act
   -- a system call, by an instruction of so many bytes
   Calls : ℕ → Act
-  Ends : (regs : List ℕ) (df : Bool) (changes : Changes) (to : Place) → Act
+  Ends : (regs : List ℕ) (df : Bool) (changes : Changes) (to : NextEip) → Act
 
 abbrev pub flag_after : Change → Bool → Bool → Bool
 flag_after Keeps old choice = old
@@ -69,18 +69,18 @@ marks_after ch old = record {
 }
 
 -- what comes of an act, in terms that do not depend on where it stands
-pub data End : Type 0 where
-  Next : Cpu → List Region → Place → End
-  Denied : ℕ → End
-  Divided : End
-  Called : ℕ → End
+pub data Completion : Type 0 where
+  Next : Processor → List Region → NextEip → Completion
+  Denied : ℕ → Completion
+  Divided : Completion
+  Called : ℕ → Completion
 
 -- goes on with what was loaded or stored, where the access was allowed
-abbrev pub or_denied : {X : Type 0} → ℕ → Option X → (X → End) → End
+abbrev pub or_denied : {X : Type 0} → ℕ → Option X → (X → Completion) → Completion
 or_denied at None go = Denied at
 or_denied at (Some x) go = go x
 
-abbrev pub perform : Act → ℕ → Cpu → List Region → End
+abbrev pub perform : Act → ℕ → Processor → List Region → Completion
 perform (Load at n k) c u rs = or_denied at (load at n rs) (λ v. perform (k v) c u rs)
 perform (Store at n v a) c u rs = or_denied at (store at n v rs) (λ rs. perform a c u rs)
 perform (Ask f k) c u rs = perform (k (flag_of f u.flags)) c u rs

@@ -3,12 +3,12 @@ use Rattle.std.specs.Prelude.{◌≡◌, ℕ, ◌+◌, List, [], ◌∷◌, Opti
 use Rattle.br_word.specs.declared.types.Flags.{Flags}
 use Rattle.br_word.specs.declared.types.GuestFault.TheVariants.{Access, Illegal, Divide}
 use Rattle.br_word.specs.Memory.{Region, Runs, bytes_at}
-use Rattle.br_word.specs.State.{State, Stop, Running, Exited, Faulted, Flag, flag_of}
+use Rattle.br_word.specs.State.{State, RunState, Running, Exited, Faulted, Flag, flag_of}
 use Rattle.ia_inst.specs.declared.inst.Inst.{Inst}
-use Rattle.ia_inst.specs.Act.{Place, Past, Again, To, Act, End, Next, Denied, Divided, Called, perform, asked}
+use Rattle.ia_inst.specs.Act.{NextEip, Past, Again, To, Act, Completion, Next, Denied, Divided, Called, perform, asked}
 use Rattle.ia_inst.specs.Meaning.{wrap, meaning}
 use Rattle.ia_inst.specs.Instructions.{decode_of}
-use Rattle.ia_inst.specs.System.{Way, On, Bad, system}
+use Rattle.ia_inst.specs.System.{StepResult, On, Bad, system}
 
 -- what stands at an address: no code, no instruction, or one with its length
 pub data Found : Type 0 where
@@ -27,28 +27,28 @@ found_in (Some bytes) = found_from (decode_of bytes)
 abbrev pub found : ℕ → List Region → Found
 found eip rs = found_in (bytes_at Runs eip 1 rs)
 
-abbrev pub place_of : Place → ℕ → ℕ
-place_of (Past n) eip = wrap (eip + n)
-place_of Again eip = eip
-place_of (To at) eip = at
+abbrev pub next_eip : NextEip → ℕ → ℕ
+next_eip (Past n) eip = wrap (eip + n)
+next_eip Again eip = eip
+next_eip (To at) eip = at
 
-abbrev pub way_of : End → State → Way
-way_of (Next u rs to) s = On (record s { eip = place_of to s.eip; cpu = u; regions = rs })
-way_of (Denied at) s = Bad (Access at)
-way_of Divided s = Bad (Divide s.eip)
-way_of (Called n) s = system (wrap (s.eip + n)) s
+abbrev pub result_of : Completion → State → StepResult
+result_of (Next u rs to) s = On (record s { eip = next_eip to s.eip; cpu = u; regions = rs })
+result_of (Denied at) s = Bad (Access at)
+result_of Divided s = Bad (Divide s.eip)
+result_of (Called n) s = system (wrap (s.eip + n)) s
 
 -- what the next step does with an instruction
 abbrev pub act_of : Inst → ℕ → State → Act
 act_of i n s = meaning i n s.cpu.regs s.eip s.cpu.df
 
-abbrev pub way_at : Found → State → ℕ → Way
-way_at NoCode s c = Bad (Access s.eip)
-way_at NoInst s c = Bad (Illegal s.eip)
-way_at (There i n) s c = way_of (perform (act_of i n s) c s.cpu s.regions) s
+abbrev pub result_at : Found → State → ℕ → StepResult
+result_at NoCode s c = Bad (Access s.eip)
+result_at NoInst s c = Bad (Illegal s.eip)
+result_at (There i n) s c = result_of (perform (act_of i n s) c s.cpu s.regions) s
 
-abbrev pub step_way : State → ℕ → Way
-step_way s c = way_at (found s.eip s.regions) s c
+abbrev pub step_result : State → ℕ → StepResult
+step_result s c = result_at (found s.eip s.regions) s c
 
 -- the flags that the next step reads
 abbrev pub asked_at : Found → State → List Flag
@@ -57,29 +57,29 @@ asked_at NoInst s = []
 asked_at (There i n) s = asked (act_of i n s) s.cpu.flags s.regions
 
 -- a fault changes nothing but the stop
-abbrev pub settled : Way → State → State
+abbrev pub settled : StepResult → State → State
 settled (On t) s = t
 settled (Bad f) s = record s { stop = Faulted f }
 
 -- a stopped guest takes no step
-abbrev pub unless_stopped : Stop → State → State → State
+abbrev pub unless_stopped : RunState → State → State → State
 unless_stopped Running old new = new
 unless_stopped (Exited n) old new = old
 unless_stopped (Faulted f) old new = old
 
 -- the choice gives the bits of flags that the step leaves undefined
 unfoldable pub step : State → ℕ → State
-step s c = unless_stopped s.stop s (settled (step_way s c) s)
+step s c = unless_stopped s.stop s (settled (step_result s c) s)
 
 abbrev pub AllMarked : Flags → List Flag → Type 0
 AllMarked marks [] = Unit {0}
 AllMarked marks (f ∷ fs) = (flag_of f marks ≡ true) × AllMarked marks fs
 
-abbrev pub NoFault : Way → Type 0
+abbrev pub NoFault : StepResult → Type 0
 NoFault (On t) = Unit {0}
 NoFault (Bad f) = ⊥
 
 -- the next step, if there is one, neither faults nor reads an undefined flag
 pub record IsWellDefined (s : State) : Type 0 where
-  pub no_fault : s.stop ≡ Running → NoFault (step_way s 0)
+  pub no_fault : s.stop ≡ Running → NoFault (step_result s 0)
   pub marked : s.stop ≡ Running → AllMarked s.cpu.marks (asked_at (found s.eip s.regions) s)

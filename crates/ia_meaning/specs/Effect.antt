@@ -6,9 +6,9 @@ use Rattle.br_word.specs.Memory.{Region}
 use Rattle.br_word.specs.State as state
 use Rattle.br_word.specs.State.{Flag, flag_of}
 use Rattle.ia_inst.specs.declared.inst.Inst.{Inst}
-use Rattle.ia_inst.specs.Act.{Changes, Act, End, Next, Denied, Divided, Called, perform, flags_after, marks_after}
+use Rattle.ia_inst.specs.Act.{Changes, Act, Completion, Next, Denied, Divided, Called, perform, flags_after, marks_after}
 use Rattle.ia_inst.specs.Meaning.{wrap, set_if, meaning}
-use Rattle.ia_inst.specs.Step.{place_of}
+use Rattle.ia_inst.specs.Step.{next_eip}
 use Rattle.guest_mem.specs.View.{MemoryView}
 use Rattle.ia_meaning.specs.declared.cpu.Cpu.{Cpu}
 use Rattle.ia_meaning.specs.declared.cpu.Outcome.{Outcome}
@@ -18,15 +18,15 @@ use Rattle.ia_meaning.specs.declared.cpu.Refused.TheVariants as refused
 use Rattle.ia_meaning.specs.declared.status.Status.{Status}
 
 -- the processor as an instruction sees it
-abbrev pub view : Cpu → state.Cpu
+abbrev pub view : Cpu → state.Processor
 view u = record { regs = u.regs; flags = u.flags; df = u.df; marks = u.known }
 
 -- ---- a whole step
 
 -- Where the act goes on, registers, flags, memory and eip are as it says. A fault leaves all as it
 -- was, and a trap moves eip past the instruction and nothing else.
-abbrev pub Comes : End → Outcome → Cpu → MemoryView → Cpu → MemoryView → Type 0
-Comes (Next u rs to) outcome.Next old m new n = (view new ≡ u) × (new.eip ≡ place_of to old.eip) × (n ≡ record m { regions = rs })
+abbrev pub Comes : Completion → Outcome → Cpu → MemoryView → Cpu → MemoryView → Type 0
+Comes (Next u rs to) outcome.Next old m new n = (view new ≡ u) × (new.eip ≡ next_eip to old.eip) × (n ≡ record m { regions = rs })
 Comes (Denied at) (outcome.Fault f) old m new n = (f ≡ Access at) × (view new ≡ view old) × (new.eip ≡ old.eip) × (n ≡ m)
 Comes Divided (outcome.Fault f) old m new n = (f ≡ Divide old.eip) × (view new ≡ view old) × (new.eip ≡ old.eip) × (n ≡ m)
 Comes (Called n) outcome.Trap old m new after = (view new ≡ view old) × (new.eip ≡ wrap (old.eip + n)) × (after ≡ m)
@@ -39,20 +39,20 @@ some_unmarked (f ∷ fs) marks = not (flag_of f marks) || some_unmarked fs marks
 
 -- ---- its parts
 
-abbrev pub end_of : Refused → End
+abbrev pub end_of : Refused → Completion
 end_of (refused.Access at) = Denied at
 end_of refused.Division = Divided
 
 -- an act goes on with what was read, or it is refused
-abbrev pub ends_with : Result ℕ Refused → (ℕ → End) → End
+abbrev pub ends_with : Result ℕ Refused → (ℕ → Completion) → Completion
 ends_with (Ok v) go = go v
 ends_with (Err r) go = end_of r
 
 -- whatever follows, the act goes on with what was read
 abbrev pub GoesOn : ((ℕ → Act) → Act) → Result ℕ Refused → List Region → Type 0
-GoesOn act result rs = (go : ℕ → Act) (c : ℕ) (u : state.Cpu) → perform (act go) c u rs ≡ ends_with result (λ v. perform (go v) c u rs)
+GoesOn act result rs = (go : ℕ → Act) (c : ℕ) (u : state.Processor) → perform (act go) c u rs ≡ ends_with result (λ v. perform (go v) c u rs)
 
-abbrev pub or_ends : Result (Unit {0}) Refused → End → End
+abbrev pub or_ends : Result (Unit {0}) Refused → Completion → Completion
 or_ends (Ok v) e = e
 or_ends (Err r) e = end_of r
 
@@ -68,15 +68,15 @@ Stores (Err r) at stored old new = (stored ≡ None) × (r ≡ refused.Access at
 
 -- whatever follows, the act goes on with the registers and the memory that were written
 abbrev pub WritesAs : ((List ℕ → Act) → Act) → Result (Unit {0}) Refused → MemoryView → List ℕ → MemoryView → Type 0
-WritesAs act result m regs n = (go : List ℕ → Act) (c : ℕ) (u : state.Cpu) → perform (act go) c u m.regions ≡ or_ends result (perform (go regs) c u n.regions)
+WritesAs act result m regs n = (go : List ℕ → Act) (c : ℕ) (u : state.Processor) → perform (act go) c u m.regions ≡ or_ends result (perform (go regs) c u n.regions)
 
 -- whatever follows, the act asks for flags and goes on with their answer
-abbrev pub AsksFor : ((Bool → Act) → Act) → Bool → state.Cpu → Type 0
+abbrev pub AsksFor : ((Bool → Act) → Act) → Bool → state.Processor → Type 0
 AsksFor act result u = (go : Bool → Act) (c : ℕ) (rs : List Region) → perform (act go) c u rs ≡ perform (go result) c u rs
 
 -- what an instruction that does not trap comes to
-abbrev pub Goes : End → Result (Unit {0}) Refused → Cpu → MemoryView → Cpu → MemoryView → Type 0
-Goes (Next u rs to) (Ok v) old m new n = (view new ≡ u) × (new.eip ≡ place_of to old.eip) × (new.undefined ≡ old.undefined) × (n ≡ record m { regions = rs })
+abbrev pub Goes : Completion → Result (Unit {0}) Refused → Cpu → MemoryView → Cpu → MemoryView → Type 0
+Goes (Next u rs to) (Ok v) old m new n = (view new ≡ u) × (new.eip ≡ next_eip to old.eip) × (new.undefined ≡ old.undefined) × (n ≡ record m { regions = rs })
 Goes (Called k) (Ok v) old m new n = ⊥
 Goes (Denied at) (Ok v) old m new n = ⊥
 Goes Divided (Ok v) old m new n = ⊥

@@ -4,9 +4,9 @@ use Rattle.ia_inst.specs.declared.inst.Inst.{Inst}
 use Rattle.ia_inst.specs.declared.inst.Kind.{Kind}
 use Rattle.ia_inst.specs.declared.inst.Kind.TheVariants.{Transfer}
 use Rattle.ia_inst.specs.Kinds.{kind_of}
-use Rattle.br_word.specs.State.{State, Stop, Running, Exited, Faulted}
-use Rattle.ia_inst.specs.Step.{Found, NoCode, NoInst, There, found, step_way, step}
-use Rattle.ia_inst.specs.System.{Way, On, Bad}
+use Rattle.br_word.specs.State.{State, RunState, Running, Exited, Faulted}
+use Rattle.ia_inst.specs.Step.{Found, NoCode, NoInst, There, found, step_result, step}
+use Rattle.ia_inst.specs.System.{StepResult, On, Bad}
 use Rattle.run_model.specs.Opening.{guest_of, opening_of}
 
 abbrev pub is_transfer_kind : Kind → Bool
@@ -20,7 +20,7 @@ abbrev pub Edge : Type 0
 Edge = ℕ × ℕ
 
 -- a step that faults gives no edge
-abbrev pub edge_by : Bool → Way → ℕ → List Edge
+abbrev pub edge_by : Bool → StepResult → ℕ → List Edge
 edge_by true (On t) site = (site, t.eip) ∷ []
 edge_by true (Bad f) site = []
 edge_by false w site = []
@@ -28,10 +28,10 @@ edge_by false w site = []
 abbrev pub edge_at : Found → State → ℕ → List Edge
 edge_at NoCode s c = []
 edge_at NoInst s c = []
-edge_at (There i n) s c = edge_by (is_transfer i) (step_way s c) s.eip
+edge_at (There i n) s c = edge_by (is_transfer i) (step_result s c) s.eip
 
 -- the edge of the next step under a choice, if it has one
-abbrev pub edge_of : Stop → State → ℕ → List Edge
+abbrev pub edge_of : RunState → State → ℕ → List Edge
 edge_of Running s c = edge_at (found s.eip s.regions) s c
 edge_of (Exited n) s c = []
 edge_of (Faulted f) s c = []

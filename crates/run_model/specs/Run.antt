@@ -1,6 +1,6 @@
 -- Runs of a guest, what they show, and when they are well defined.
 use Rattle.std.specs.Prelude.{ℕ, zero, suc, ◌<◌, List, [], ◌∷◌, drop, All}
-use Rattle.br_word.specs.State.{State, Stop}
+use Rattle.br_word.specs.State.{State, RunState}
 use Rattle.ia_inst.specs.Step.{step, IsWellDefined}
 use Rattle.run_model.specs.Opening.{opening_of}
 
@@ -9,7 +9,7 @@ pub record Observation : Type 0 where
   pub out : List ℕ
   pub err : List ℕ
   pub input : List ℕ
-  pub stop : Stop
+  pub stop : RunState
 
 abbrev pub observed : State → Observation
 observed s = record { out = s.out; err = s.err; input = s.input; stop = s.stop }

@@ -3,9 +3,9 @@ use Rattle.std.proofs.Common.{◌≡◌, ℕ, ◌+◌, ◌-◌, ◌<◌, List, [
 use Rattle.std.proofs.lemmas.List.{append-nil}
 use Rattle.elf_read.specs.declared.exe.Exe.{Exe}
 use Rattle.ia_inst.specs.declared.inst.Inst.{Inst}
-use Rattle.lift_flow.specs.Places.{Placed, found_at, inst_found}
-use Rattle.lift_flow.specs.Blocks.{StandFrom, block_of}
-use Rattle.lift_flow.proofs.Unique.{block_is}
+use Rattle.block_cut.specs.Places.{Placed, found_at, inst_found}
+use Rattle.block_cut.specs.Blocks.{StandFrom, block_of}
+use Rattle.block_cut.proofs.Unique.{block_is}
 use Rattle.show_text.specs.Listing.{line_of, lines_of}
 
 -- the lines of all but so many instructions are written: those stand from an address on

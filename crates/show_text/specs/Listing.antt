@@ -8,12 +8,12 @@ use Rattle.ia_inst.specs.Step.{Found, NoCode, NoInst, There}
 use Rattle.br_word.specs.declared.types.Width.TheVariants.{B8, B32}
 use Rattle.ia_text.specs.Operands.{digits_text}
 use Rattle.ia_text.specs.Text.{text_of}
-use Rattle.lift_flow.specs.declared.ends.End.{End}
-use Rattle.lift_flow.specs.declared.ends.End.TheVariants.{Transfer, Island, BeforeIsland, Unreadable, Full}
-use Rattle.lift_flow.specs.declared.ends.Cut.{Cut}
-use Rattle.lift_flow.specs.Places.{Placed, found_at}
-use Rattle.lift_flow.specs.Transfers.{direct_targets, is_indirect}
-use Rattle.lift_flow.specs.Blocks.{block_of, cut_of}
+use Rattle.block_cut.specs.declared.ends.End.{End}
+use Rattle.block_cut.specs.declared.ends.End.TheVariants.{Transfer, Island, BeforeIsland, Unreadable, Full}
+use Rattle.block_cut.specs.declared.ends.Cut.{Cut}
+use Rattle.block_cut.specs.Places.{Placed, found_at}
+use Rattle.block_cut.specs.Transfers.{direct_targets, is_indirect}
+use Rattle.block_cut.specs.Blocks.{block_of, cut_of}
 
 -- ---- numbers
 

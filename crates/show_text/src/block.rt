@@ -7,7 +7,7 @@ use crate::lines::lines_text;
 use crate::numbers::address_text;
 use crate::ways::ways_text;
 use elf_read::Exe;
-use lift_flow::cut;
+use block_cut::cut;
 use std::alloc::{AllocError, Global};
 
 #[tactic(auto, unfolding(crate::specs::Listing::listing_of))]

@@ -3,8 +3,8 @@ ghost use Rattle.std.specs.Prelude.{◌≡◌, ◌+◌, ◌≤◌, ◌++◌, IfO
 ghost use Rattle.elf_read.specs.Elf.{IsGuest, is_exec};
 ghost use Rattle.elf_read.specs.Code.{code_at};
 ghost use Rattle.ia_inst.specs.Instructions.{decode_of};
-ghost use Rattle.lift_flow.specs.Places.{found_at, inst_found};
-ghost use Rattle.lift_flow.specs.Blocks.{block_of};
+ghost use Rattle.block_cut.specs.Places.{found_at, inst_found};
+ghost use Rattle.block_cut.specs.Blocks.{block_of};
 ghost use Rattle.show_text.specs.Listing.{line_text, lines_of};
 
 use crate::numbers::{address_text, bytes_text};

@@ -3,14 +3,14 @@ ghost use Rattle.std.specs.Prelude.{◌≡◌, ◌+◌, ◌<◌, ◌^◌, ◌++�
 ghost use Rattle.std.specs.List.{flat_map};
 ghost use Rattle.elf_read.specs.Elf.{IsGuest};
 ghost use Rattle.ia_inst.specs.Meaning.{wrap};
-ghost use Rattle.lift_flow.specs.Places.{found_at};
+ghost use Rattle.block_cut.specs.Places.{found_at};
 ghost use Rattle.show_text.specs.Listing.{way_line, way_to, ways_to_any, transfer_ways, ways_of};
 
 use crate::lines::instruction_at;
 use crate::numbers::address_text;
 use elf_read::Exe;
 use ia_inst::Inst;
-use lift_flow::{Cut, End};
+use block_cut::{Cut, End};
 use std::alloc::{AllocError, Global};
 
 /// A way of a kind.

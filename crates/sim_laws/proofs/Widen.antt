@@ -7,11 +7,11 @@ use Rattle.std.proofs.Math.Bool.{and-false}
 use Rattle.std.proofs.lemmas.Option.{none-some, same_Some}
 use Rattle.br_word.specs.declared.types.Flags.{Flags}
 use Rattle.br_word.specs.Memory.{Region, Use, Reads, Writes, Runs, allows, covers, bytes_at, put_over, written, number_of, bytes_of, zeros, load, store, resized}
-use Rattle.br_word.specs.State.{Cpu, State, Stop, Running, Exited, Faulted, Flag, CF, PF, ZF, SF, OF, flag_of}
-use Rattle.ia_inst.specs.Act.{Act, Load, Store, Ask, Divides, Calls, Ends, Change, Keeps, Becomes, IsLeft, Changes, flag_after, mark_after, flags_after, marks_after, End, Next, Denied, Divided, Called, or_denied, perform, or_none, asked}
+use Rattle.br_word.specs.State.{Processor, State, RunState, Running, Exited, Faulted, Flag, CF, PF, ZF, SF, OF, flag_of}
+use Rattle.ia_inst.specs.Act.{Act, Load, Store, Ask, Divides, Calls, Ends, Change, Keeps, Becomes, IsLeft, Changes, flag_after, mark_after, flags_after, marks_after, Completion, Next, Denied, Divided, Called, or_denied, perform, or_none, asked}
 use Rattle.ia_inst.specs.Meaning.{wrap}
-use Rattle.ia_inst.specs.System.{answers, buffer, filled, system, Way, On, Bad, or_bad}
-use Rattle.ia_inst.specs.Step.{Found, NoCode, NoInst, There, found_in, found, act_of, way_of, way_at, step_way, asked_at, settled, unless_stopped, step, AllMarked, NoFault, IsWellDefined}
+use Rattle.ia_inst.specs.System.{answers, buffer, filled, system, StepResult, On, Bad, or_bad}
+use Rattle.ia_inst.specs.Step.{Found, NoCode, NoInst, There, found_in, found, act_of, result_of, result_at, step_result, asked_at, settled, unless_stopped, step, AllMarked, NoFault, IsWellDefined}
 use Rattle.run_model.specs.Run.{first_choice, run, WellDefined}
 
 -- each region ends below
@@ -136,30 +136,30 @@ pub record Follows (low : ℕ) (extra : List Region) (s t : State) : Type 0 wher
   pub same : t ≡ widen extra flags s
 
 -- where the one does not fault, the other does the same
-abbrev pub MatchesEnd : ℕ → List Region → End → End → Type 0
+abbrev pub MatchesEnd : ℕ → List Region → Completion → Completion → Type 0
 MatchesEnd low extra (Next u rs to) e = (fl : Flags) × Agree u.marks fl u.flags × AllHigh low rs × (e ≡ Next (record u { flags = fl }) (extra ++ rs) to)
 MatchesEnd low extra (Denied at) e = Unit {0}
 MatchesEnd low extra Divided e = Unit {0}
 MatchesEnd low extra (Called n) e = e ≡ Called n
 
-abbrev pub Matches : ℕ → List Region → Way → Way → Type 0
+abbrev pub Matches : ℕ → List Region → StepResult → StepResult → Type 0
 Matches low extra (On s) w = (t : State) × (w ≡ On t) × Follows low extra s t
 Matches low extra (Bad f) w = Unit {0}
 
 module _ (low : ℕ) (extra : List Region) (x : AllLow low extra) where
-  load_case : (marks : Flags) (rs : List Region) (at n : ℕ) (e1 e2 : ℕ → End) (fs : ℕ → List Flag) (o : Option ℕ) → AllHigh low rs → load at n rs ≡ o → AllMarked marks (or_none o fs) → ((v : ℕ) → AllMarked marks (fs v) → MatchesEnd low extra (e1 v) (e2 v)) → MatchesEnd low extra (or_denied at o e1) (or_denied at (load at n (extra ++ rs)) e2)
+  load_case : (marks : Flags) (rs : List Region) (at n : ℕ) (e1 e2 : ℕ → Completion) (fs : ℕ → List Flag) (o : Option ℕ) → AllHigh low rs → load at n rs ≡ o → AllMarked marks (or_none o fs) → ((v : ℕ) → AllMarked marks (fs v) → MatchesEnd low extra (e1 v) (e2 v)) → MatchesEnd low extra (or_denied at o e1) (or_denied at (load at n (extra ++ rs)) e2)
   load_case marks rs at n e1 e2 fs None h e m ih = tt
   load_case marks rs at n e1 e2 fs (Some v) h e m ih =
       subst (λ o. MatchesEnd low extra (e1 v) (or_denied at o e2)) (sym (load_wide low at n extra rs v x h e)) (ih v m)
 
-  store_case : (marks : Flags) (rs : List Region) (at : ℕ) (new : List ℕ) (e1 e2 : List Region → End) (fs : List Region → List Flag) (o : Option (List Region)) → AllHigh low rs → written at new rs ≡ o → AllMarked marks (or_none o fs) → ((rs' : List Region) → AllHigh low rs' → AllMarked marks (fs rs') → MatchesEnd low extra (e1 rs') (e2 (extra ++ rs'))) → MatchesEnd low extra (or_denied at o e1) (or_denied at (written at new (extra ++ rs)) e2)
+  store_case : (marks : Flags) (rs : List Region) (at : ℕ) (new : List ℕ) (e1 e2 : List Region → Completion) (fs : List Region → List Flag) (o : Option (List Region)) → AllHigh low rs → written at new rs ≡ o → AllMarked marks (or_none o fs) → ((rs' : List Region) → AllHigh low rs' → AllMarked marks (fs rs') → MatchesEnd low extra (e1 rs') (e2 (extra ++ rs'))) → MatchesEnd low extra (or_denied at o e1) (or_denied at (written at new (extra ++ rs)) e2)
   store_case marks rs at new e1 e2 fs None h e m ih = tt
   store_case marks rs at new e1 e2 fs (Some rs') h e m ih =
       let w = written_wide low at new extra rs rs' x h e in
       subst (λ o. MatchesEnd low extra (e1 rs') (or_denied at o e2)) (sym w.0) (ih rs' w.1 m)
 
   -- any act at all
-  pub perform_more : (a : Act) (u : Cpu) (fl : Flags) (rs : List Region) (c : ℕ) → AllHigh low rs → Agree u.marks fl u.flags → AllMarked u.marks (asked a u.flags rs) → MatchesEnd low extra (perform a 0 u rs) (perform a c (record u { flags = fl }) (extra ++ rs))
+  pub perform_more : (a : Act) (u : Processor) (fl : Flags) (rs : List Region) (c : ℕ) → AllHigh low rs → Agree u.marks fl u.flags → AllMarked u.marks (asked a u.flags rs) → MatchesEnd low extra (perform a 0 u rs) (perform a c (record u { flags = fl }) (extra ++ rs))
   perform_more (Load at n k) u fl rs c h g m =
       load_case u.marks rs at n _ _ (λ v. asked (k v) u.flags rs) (load at n rs) h refl m (λ v m'. perform_more (k v) u fl rs c h g m')
   perform_more (Store at n v a) u fl rs c h g m =
@@ -172,13 +172,13 @@ module _ (low : ℕ) (extra : List Region) (x : AllLow low extra) where
   perform_more (Calls n) u fl rs c h g m = refl
   perform_more (Ends regs df ch to) u fl rs c h g m = (flags_after ch fl c, agree_after ch u.marks fl u.flags c 0 g, h, refl)
 
-  or_case : {X Y : Type 0} (at : ℕ) (o : Option X) (o' : Option Y) (e : X → Way) (e' : Y → Way) → ((v : X) → o ≡ Some v → (v' : Y) × (o' ≡ Some v') × Matches low extra (e v) (e' v')) → Matches low extra (or_bad at o e) (or_bad at o' e')
+  or_case : {X Y : Type 0} (at : ℕ) (o : Option X) (o' : Option Y) (e : X → StepResult) (e' : Y → StepResult) → ((v : X) → o ≡ Some v → (v' : Y) × (o' ≡ Some v') × Matches low extra (e v) (e' v')) → Matches low extra (or_bad at o e) (or_bad at o' e')
   or_case at None o' e e' h = tt
   or_case at (Some v) o' e e' h =
       let r = h v refl in
       subst (λ o. Matches low extra (e v) (or_bad at o e')) (sym r.1) r.2
 
-  either_way : (b : Bool) (d e d' e' : Way) → Matches low extra d d' → Matches low extra e e' → Matches low extra (if b then d else e) (if b then d' else e')
+  either_way : (b : Bool) (d e d' e' : StepResult) → Matches low extra d d' → Matches low extra e e' → Matches low extra (if b then d else e) (if b then d' else e')
   either_way true d e d' e' h k = h
   either_way false d e d' e' h k = k
 
@@ -249,31 +249,31 @@ module _ (low : ℕ) (extra : List Region) (x : AllLow low extra) where
       (next_same (answers s.brk next s) fl (record { regions = h.regions; brk = h.brk }) g))
       (next_same (answers (2 ^ 32 - 38) next s) fl (record { regions = h.regions; brk = h.brk }) g))))
 
-  way_more : (e e' : End) (s : State) (fl : Flags) → IsHigh low s → Agree s.cpu.marks fl s.cpu.flags → MatchesEnd low extra e e' → Matches low extra (way_of e s) (way_of e' (widen extra fl s))
+  way_more : (e e' : Completion) (s : State) (fl : Flags) → IsHigh low s → Agree s.cpu.marks fl s.cpu.flags → MatchesEnd low extra e e' → Matches low extra (result_of e s) (result_of e' (widen extra fl s))
   way_more (Next u rs to) e' s fl h g m =
-      (_, ap (λ e. way_of e (widen extra fl s)) m.3, record { flags = m.0; agree = m.1; high = record { regions = m.2; brk = h.brk }; same = refl })
+      (_, ap (λ e. result_of e (widen extra fl s)) m.3, record { flags = m.0; agree = m.1; high = record { regions = m.2; brk = h.brk }; same = refl })
   way_more (Denied at) e' s fl h g m = tt
   way_more Divided e' s fl h g m = tt
   way_more (Called n) e' s fl h g m =
-      subst (λ e. Matches low extra (system (wrap (s.eip + n)) s) (way_of e (widen extra fl s))) (sym m) (system_more (wrap (s.eip + n)) s fl h g)
+      subst (λ e. Matches low extra (system (wrap (s.eip + n)) s) (result_of e (widen extra fl s))) (sym m) (system_more (wrap (s.eip + n)) s fl h g)
 
   -- where there is an instruction, there is the same one
-  found_more : (s : State) (o : Option (List ℕ)) → AllHigh low s.regions → bytes_at Runs s.eip 1 s.regions ≡ o → NoFault (way_at (found_in o) s 0) → found s.eip (extra ++ s.regions) ≡ found_in o
+  found_more : (s : State) (o : Option (List ℕ)) → AllHigh low s.regions → bytes_at Runs s.eip 1 s.regions ≡ o → NoFault (result_at (found_in o) s 0) → found s.eip (extra ++ s.regions) ≡ found_in o
   found_more s None h e n = absurd n
   found_more s (Some bs) h e n = ap found_in (bytes_at_wide Runs low s.eip 1 extra s.regions bs x h e)
 
-  way_at_more : (f : Found) (s : State) (fl : Flags) (c : ℕ) → IsHigh low s → Agree s.cpu.marks fl s.cpu.flags → AllMarked s.cpu.marks (asked_at f s) → Matches low extra (way_at f s 0) (way_at f (widen extra fl s) c)
+  way_at_more : (f : Found) (s : State) (fl : Flags) (c : ℕ) → IsHigh low s → Agree s.cpu.marks fl s.cpu.flags → AllMarked s.cpu.marks (asked_at f s) → Matches low extra (result_at f s 0) (result_at f (widen extra fl s) c)
   way_at_more NoCode s fl c h g m = tt
   way_at_more NoInst s fl c h g m = tt
   way_at_more (There i n) s fl c h g m =
       way_more (perform (act_of i n s) 0 s.cpu s.regions) (perform (act_of i n s) c (record (s.cpu) { flags = fl }) (extra ++ s.regions)) s fl h g (perform_more (act_of i n s) s.cpu fl s.regions c h.regions g m)
 
-  step_way_more : (s : State) (fl : Flags) (c : ℕ) → IsHigh low s → Agree s.cpu.marks fl s.cpu.flags → NoFault (step_way s 0) → AllMarked s.cpu.marks (asked_at (found s.eip s.regions) s) → Matches low extra (step_way s 0) (step_way (widen extra fl s) c)
+  step_way_more : (s : State) (fl : Flags) (c : ℕ) → IsHigh low s → Agree s.cpu.marks fl s.cpu.flags → NoFault (step_result s 0) → AllMarked s.cpu.marks (asked_at (found s.eip s.regions) s) → Matches low extra (step_result s 0) (step_result (widen extra fl s) c)
   step_way_more s fl c h g n m =
-      subst (λ f. Matches low extra (step_way s 0) (way_at f (widen extra fl s) c)) (sym (found_more s (bytes_at Runs s.eip 1 s.regions) h.regions refl n))
+      subst (λ f. Matches low extra (step_result s 0) (result_at f (widen extra fl s) c)) (sym (found_more s (bytes_at Runs s.eip 1 s.regions) h.regions refl n))
       (way_at_more (found s.eip s.regions) s fl c h g m)
 
-  settled_more : (w w' : Way) (s : State) (fl : Flags) → NoFault w → Matches low extra w w' → Follows low extra (settled w s) (settled w' (widen extra fl s))
+  settled_more : (w w' : StepResult) (s : State) (fl : Flags) → NoFault w → Matches low extra w w' → Follows low extra (settled w s) (settled w' (widen extra fl s))
   settled_more (On t) w' s fl n m = subst (λ w. Follows low extra t (settled w (widen extra fl s))) (sym m.1) m.2
   settled_more (Bad f) w' s fl n m = absurd n
 
@@ -281,8 +281,8 @@ module _ (low : ℕ) (extra : List Region) (x : AllLow low extra) where
   unfolding step
   step_more s fl c h g f = go s.stop refl
     where
-      go : (stop : Stop) → s.stop ≡ stop → Follows low extra (unless_stopped stop s (settled (step_way s 0) s)) (unless_stopped stop (widen extra fl s) (settled (step_way (widen extra fl s) c) (widen extra fl s)))
-      go Running e = settled_more (step_way s 0) (step_way (widen extra fl s) c) s fl (f.no_fault e) (step_way_more s fl c h g (f.no_fault e) (f.marked e))
+      go : (stop : RunState) → s.stop ≡ stop → Follows low extra (unless_stopped stop s (settled (step_result s 0) s)) (unless_stopped stop (widen extra fl s) (settled (step_result (widen extra fl s) c) (widen extra fl s)))
+      go Running e = settled_more (step_result s 0) (step_result (widen extra fl s) c) s fl (f.no_fault e) (step_way_more s fl c h g (f.no_fault e) (f.marked e))
       go (Exited n) e = record { flags = fl; agree = g; high = h; same = refl }
       go (Faulted v) e = record { flags = fl; agree = g; high = h; same = refl }
 

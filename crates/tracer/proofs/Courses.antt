@@ -5,7 +5,7 @@ use Rattle.ia_inst.specs.Step.{step}
 use Rattle.guest_sys.specs.Streams.{Streams}
 use Rattle.guest_sys.specs.Machine.{fed, bare}
 use Rattle.guest_sys.specs.declared.answers.SysError.{SysError}
-use Rattle.guest_run.specs.Guest.{GuestView, StepDone, Steps, Runs, answer_of}
+use Rattle.guest_run.specs.Guest.{GuestView, StepDone, StepCall, Runs, answer_of}
 use Rattle.guest_run.proofs.Whole.{runs_more, runs_none, runs_stopped, runs_failed, done_live, done_bare}
 use Rattle.trace_file.specs.Edges.{Edge}
 use Rattle.tracer.specs.declared.answers.Traced.{Traced}
@@ -60,7 +60,7 @@ within_more n s g h a b es d few w zero l = few
 within_more n s g h a b es d few w (suc k) l = omega (arith, ap length (after_first k s g h a b es d), w k (omega arith))
 
 -- what holds of the rest, for what the input has left then
-carry : (g h : GuestView) (a b : Streams) (P Q : State → Type 0) → Steps (Ok true) 0 g h a b
+carry : (g h : GuestView) (a b : Streams) (P Q : State → Type 0) → StepCall (Ok true) 0 g h a b
     → ((left : List ℕ) (d : StepDone (fed left g.state) 0 g h a b) → P (fed (drop d.more (step (fed left g.state) 0).input) h.state) → Q (fed left g.state))
     → ForTold b h P → ForTold a g Q
 carry g h a b P Q d f p = go a.input.bytes d.told d.gives.streams.input.bytes where
@@ -95,7 +95,7 @@ fills_first s g h a b es d few passed = record {
   passed = omega (arith, ap length (after_first 0 s g h a b es d), passed);
 }
 
-course_more : (n : ℕ) (g h : GuestView) (es : List Edge) (r : Result Traced TracingError) (a b c : Streams) → length es ≤ edge_limit → Steps (Ok true) 0 g h a b
+course_more : (n : ℕ) (g h : GuestView) (es : List Edge) (r : Result Traced TracingError) (a b c : Streams) → length es ≤ edge_limit → StepCall (Ok true) 0 g h a b
     → Course n h (with_step h.edge es) r b c → Course (suc n) g es r a c
 course_more n g h es r a b c few d (Stood k hs w t e) =
     Stood k hs (runs_more _ n g h k a b c d w) (carry g h a b (λ s. StandsAfter n s (with_step h.edge es) hs) (λ s. StandsAfter (suc n) s es hs) d (λ left d p. stands_more n (fed left g.state) g h a b es hs d few p) t) e

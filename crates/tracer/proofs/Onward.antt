@@ -1,8 +1,8 @@
 -- The edges of a run by that of its first step and those of the rest.
 use Rattle.std.proofs.Common.{◌≡◌, ℕ, zero, suc, ◌≤◌, Bool, true, false, List, [], ◌∷◌, ◌++◌, drop, Option, Some, None, refl, sym, ◌∙◌, ap, subst, arith}
-use Rattle.br_word.specs.State.{State, Stop, Running, Exited, Faulted}
-use Rattle.ia_inst.specs.System.{Way, On, Bad}
-use Rattle.ia_inst.specs.Step.{Found, NoCode, NoInst, There, found, step_way, step}
+use Rattle.br_word.specs.State.{State, RunState, Running, Exited, Faulted}
+use Rattle.ia_inst.specs.System.{StepResult, On, Bad}
+use Rattle.ia_inst.specs.Step.{Found, NoCode, NoInst, There, found, step_result, step}
 use Rattle.guest_sys.specs.Streams.{Streams}
 use Rattle.guest_sys.specs.Machine.{fed, bare}
 use Rattle.guest_sys.specs.Calls.{spare}
@@ -19,7 +19,7 @@ abbrev pub as_list : Option Edge → List Edge
 as_list None = []
 as_list (Some e) = e ∷ []
 
-by_one : (b : Bool) (w : Way) (site : ℕ) → edge_by b w site ≡ as_list (first_edge (edge_by b w site))
+by_one : (b : Bool) (w : StepResult) (site : ℕ) → edge_by b w site ≡ as_list (first_edge (edge_by b w site))
 by_one true (On t) site = refl
 by_one true (Bad f) site = refl
 by_one false w site = refl
@@ -27,16 +27,16 @@ by_one false w site = refl
 at_one : (f : Found) (s : State) (c : ℕ) → edge_at f s c ≡ as_list (first_edge (edge_at f s c))
 at_one NoCode s c = refl
 at_one NoInst s c = refl
-at_one (There i n) s c = by_one (is_transfer i) (step_way s c) s.eip
+at_one (There i n) s c = by_one (is_transfer i) (step_result s c) s.eip
 
-of_one : (x : Stop) (s : State) (c : ℕ) → edge_of x s c ≡ as_list (first_edge (edge_of x s c))
+of_one : (x : RunState) (s : State) (c : ℕ) → edge_of x s c ≡ as_list (first_edge (edge_of x s c))
 of_one Running s c = at_one (found s.eip s.regions) s c
 of_one (Exited n) s c = refl
 of_one (Faulted f) s c = refl
 
 -- ---- what was written before changes no edge
 
-first_shown : (x : Stop) (w e : List ℕ) (s : State)
+first_shown : (x : RunState) (w e : List ℕ) (s : State)
     → while_running x (first_edge (edge_of x (shown w e s) 0)) None ≡ while_running x (first_edge (edge_of x s 0)) None
     → edge_of x (shown w e s) 0 ≡ edge_of x s 0
 first_shown Running w e s h = of_one Running (shown w e s) 0 ∙ (ap as_list h ∙ sym (of_one Running s 0))
@@ -51,7 +51,7 @@ edges_shown (suc n) w e s =
 
 -- ---- a guest that has stopped
 
-of_none : (x : Stop) (s : State) (c : ℕ) → (x ≡ Running → ⊥) → edge_of x s c ≡ []
+of_none : (x : RunState) (s : State) (c : ℕ) → (x ≡ Running → ⊥) → edge_of x s c ≡ []
 of_none Running s c h = absurd (h refl)
 of_none (Exited n) s c h = refl
 of_none (Faulted f) s c h = refl
@@ -68,13 +68,13 @@ all_rest n t = sym (edges_shown n t.out t.err (fed t.input (bare t))) ∙ ap (λ
 -- a state that has come to t, and what it has taken more
 edges_rest : (n more : ℕ) (t : State) → more ≤ ahead t → edges_from n (fed (drop more t.input) (bare t)) ≡ edges_from n t
 edges_rest n more t le = go t.stop refl where
-  at_end : (x : Stop) → t.stop ≡ x → spare x (asks_next t) ≡ 0 → edges_from n (fed (drop more t.input) (bare t)) ≡ edges_from n t
+  at_end : (x : RunState) → t.stop ≡ x → spare x (asks_next t) ≡ 0 → edges_from n (fed (drop more t.input) (bare t)) ≡ edges_from n t
   at_end x q z =
       let none : more ≡ 0 = omega (arith, le, ap (λ y. spare y (asks_next t)) q, z) in
       let P : ℕ → Type 0 = λ k. edges_from n (fed (drop k t.input) (bare t)) ≡ edges_from n t in
       subst P (sym none) (all_rest n t)
 
-  go : (x : Stop) → t.stop ≡ x → edges_from n (fed (drop more t.input) (bare t)) ≡ edges_from n t
+  go : (x : RunState) → t.stop ≡ x → edges_from n (fed (drop more t.input) (bare t)) ≡ edges_from n t
   go Running q = at_end Running q refl
   go (Exited k) q = at_end (Exited k) q refl
   go (Faulted f) q =
@@ -91,7 +91,7 @@ collected_one : (o : Option Edge) (es : List Edge) → collected (as_list o) es 
 collected_one None es = refl
 collected_one (Some e) es = refl
 
-pub collected_step : (x : Stop) (s : State) (c : ℕ) (es : List Edge) → collected (edge_of x s c) es ≡ with_step (first_edge (edge_of x s c)) es
+pub collected_step : (x : RunState) (s : State) (c : ℕ) (es : List Edge) → collected (edge_of x s c) es ≡ with_step (first_edge (edge_of x s c)) es
 collected_step x s c es = ap (λ xs. collected xs es) (of_one x s c) ∙ collected_one (first_edge (edge_of x s c)) es
 
 -- the edges with those of n steps

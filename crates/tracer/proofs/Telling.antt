@@ -1,6 +1,6 @@
 -- What a tour gives, for an input that tells what it has left.
 use Rattle.std.proofs.Common.{◌≡◌, ℕ, suc, ◌<◌, ◌≤◌, List, [], ◌∷◌, Option, Some, None, IfSome, Result, Err, Bool, true, false, refl, sym, subst, arith}
-use Rattle.br_word.specs.State.{State, Stop, Running, Exited, Faulted}
+use Rattle.br_word.specs.State.{State, RunState, Running, Exited, Faulted}
 use Rattle.ia_inst.specs.Step.{step}
 use Rattle.elf_read.specs.declared.exe.Exe.{Exe}
 use Rattle.br_outside.specs.Outside.{StreamView}
@@ -22,7 +22,7 @@ use Rattle.tracer.proofs.Courses.{Course, Stood, Filled, Failed, Wanted, AreWith
 abbrev begun : Exe → List (List ℕ) → List ℕ → State
 begun exe words left = opening exe (arguments words) left
 
-running_le : (x : Stop) (k : ℕ) → while_running x k 0 ≤ k
+running_le : (x : RunState) (k : ℕ) → while_running x k 0 ≤ k
 running_le Running k = omega arith
 running_le (Exited n) k = omega arith
 running_le (Faulted f) k = omega arith
@@ -31,7 +31,7 @@ asks_le : (b : Bool) (s : State) → asks_by b s ≤ asks s
 asks_le true s = omega arith
 asks_le false s = omega arith
 
-spare_le : (x : Stop) (k : ℕ) → spare x k ≤ k
+spare_le : (x : RunState) (k : ℕ) → spare x k ≤ k
 spare_le Running k = omega arith
 spare_le (Exited n) k = omega arith
 spare_le (Faulted f) k = omega arith

@@ -3,7 +3,7 @@ use Rattle.std.proofs.Common.{◌≡◌, ℕ, zero, suc, ◌≤◌, ◌<◌, tru
 use Rattle.std.specs.Result.{IsErrAnd}
 use Rattle.guest_sys.specs.Streams.{Streams}
 use Rattle.guest_sys.specs.declared.answers.SysError.{SysError}
-use Rattle.guest_run.specs.Guest.{GuestView, Steps}
+use Rattle.guest_run.specs.Guest.{GuestView, StepCall}
 use Rattle.trace_file.specs.Edges.{Edge}
 use Rattle.tracer.specs.declared.answers.Traced.{Traced}
 use Rattle.tracer.specs.declared.answers.TracingError.{TracingError}
@@ -28,7 +28,7 @@ unfolding Tour
 tour_ends g es r a b w = w
 
 -- the guest has stopped
-pub tour_stays : (n : ℕ) (g h : GuestView) (es : List Edge) (r : Answer) (a now b : Streams) → Steps (Ok false) 0 g h a now → Rests (Ok tt) h es r now b → Tour (suc n) g es r a b
+pub tour_stays : (n : ℕ) (g h : GuestView) (es : List Edge) (r : Answer) (a now b : Streams) → StepCall (Ok false) 0 g h a now → Rests (Ok tt) h es r now b → Tour (suc n) g es r a b
 unfolding Tour
 tour_stays n g h es r a now b d w =
     let P : GuestView → Type 0 = λ h. Rests (Ok tt) h es r now b in
@@ -39,9 +39,9 @@ tour_stays n g h es r a now b d w =
     ]
 
 -- the step fails
-pub tour_fails : (n : ℕ) (e : SysError) (g h : GuestView) (es hs : List Edge) (r : Answer) (a now b : Streams) → Steps (Err e) 0 g h a now → Rests (Err (error_of e)) h hs r now b → Tour (suc n) g es r a b
+pub tour_fails : (n : ℕ) (e : SysError) (g h : GuestView) (es hs : List Edge) (r : Answer) (a now b : Streams) → StepCall (Err e) 0 g h a now → Rests (Err (error_of e)) h hs r now b → Tour (suc n) g es r a b
 unfolding Tour
-tour_fails n e g h es hs r a now b d w = let P : Streams → Type 0 = λ b. Steps (Err e) 0 g h a b in Fails e h (subst P (sym w.1) d) w.0
+tour_fails n e g h es hs r a now b d w = let P : Streams → Type 0 = λ b. StepCall (Err e) 0 g h a b in Fails e h (subst P (sym w.1) d) w.0
 
 -- the edge of a step, if it has one, is recorded
 abbrev pub NextEdges : Option Edge → List Edge → List Edge → Type 0
@@ -53,7 +53,7 @@ next_none o es hs none same few = (same ∙ ap (λ o. with_step o es) (sym none)
 pub next_some : (o : Option Edge) (e : Edge) (es new hs : List Edge) → o ≡ Some e → hs ≡ new → Records (Ok tt) e es new → NextEdges o es hs
 next_some o e es new hs some same is = (same ∙ (is.0 ∙ ap (λ o. with_step o es) (sym some)), omega (arith, ap length same, is.1))
 
-pub tour_steps : (n : ℕ) (g h : GuestView) (es hs : List Edge) (r : Answer) (a now b : Streams) → Steps (Ok true) 0 g h a now → NextEdges h.edge es hs → Tour n h hs r now b → Tour (suc n) g es r a b
+pub tour_steps : (n : ℕ) (g h : GuestView) (es hs : List Edge) (r : Answer) (a now b : Streams) → StepCall (Ok true) 0 g h a now → NextEdges h.edge es hs → Tour n h hs r now b → Tour (suc n) g es r a b
 unfolding Tour
 tour_steps n g h es hs r a now b d next w =
     let P : List Edge → Type 0 = λ es. length es ≤ edge_limit in
@@ -61,11 +61,11 @@ tour_steps n g h es hs r a now b d next w =
     GoesOn h now d (subst P next.0 next.1) (subst Q next.0 w)
 
 -- the edge of a step is not recorded
-pub tour_breaks : (n : ℕ) (x : TracingError) (e : Edge) (g h : GuestView) (es hs : List Edge) (r : Answer) (a now b : Streams) → Steps (Ok true) 0 g h a now → h.edge ≡ Some e → Records (Err x) e es hs → Rests (Err x) h hs r now b → Tour (suc n) g es r a b
+pub tour_breaks : (n : ℕ) (x : TracingError) (e : Edge) (g h : GuestView) (es hs : List Edge) (r : Answer) (a now b : Streams) → StepCall (Ok true) 0 g h a now → h.edge ≡ Some e → Records (Err x) e es hs → Rests (Err x) h hs r now b → Tour (suc n) g es r a b
 unfolding Tour
 tour_breaks n errors.Union e g h es hs r a now b d some is w =
     let P : Option Edge → Type 0 = λ o. edge_limit < length (with_step o es) in
-    let Q : Streams → Type 0 = λ b. Steps (Ok true) 0 g h a b in
+    let Q : Streams → Type 0 = λ b. StepCall (Ok true) 0 g h a b in
     IsFull h (subst Q (sym w.1) d) (subst P (sym some) is.0) w.0
 tour_breaks n errors.Memory e g h es hs r a now b d some is w =
     let P : Option Edge → Type 0 = λ o. length (with_step o es) ≤ edge_limit in

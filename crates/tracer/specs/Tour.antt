@@ -5,7 +5,7 @@ use Rattle.elf_read.specs.declared.exe.Exe.{Exe}
 use Rattle.guest_sys.specs.Streams.{Streams}
 use Rattle.guest_sys.specs.declared.answers.SysError.{SysError}
 use Rattle.guest_sys.specs.declared.answers.SysError.TheVariants as sys
-use Rattle.guest_run.specs.Guest.{GuestView, Steps, answer_of}
+use Rattle.guest_run.specs.Guest.{GuestView, StepCall, answer_of}
 use Rattle.trace_file.specs.Edges.{Edge, with_edge}
 use Rattle.tracer.specs.declared.answers.Traced.{Traced}
 use Rattle.tracer.specs.declared.answers.TracingError.{TracingError}
@@ -44,9 +44,9 @@ Stands g es r before after = (r ≡ Ok (traced g es)) × (after ≡ before)
 
 -- What a guest does that may take a step. `next` is what comes after the step, by the guest, the edges and the streams then.
 pub data AfterStep (next : GuestView → List Edge → Streams → Type 0) (g : GuestView) (es : List Edge) (r : Result Traced TracingError) (before after : Streams) : Type 0 where
-  GoesOn : (h : GuestView) (now : Streams) → Steps (Ok true) 0 g h before now → length (with_step h.edge es) ≤ edge_limit → next h (with_step h.edge es) now → AfterStep next g es r before after
-  IsFull : (h : GuestView) → Steps (Ok true) 0 g h before after → edge_limit < length (with_step h.edge es) → r ≡ Err errors.Union → AfterStep next g es r before after
-  Fails : (e : SysError) (h : GuestView) → Steps (Err e) 0 g h before after → r ≡ Err (error_of e) → AfterStep next g es r before after
+  GoesOn : (h : GuestView) (now : Streams) → StepCall (Ok true) 0 g h before now → length (with_step h.edge es) ≤ edge_limit → next h (with_step h.edge es) now → AfterStep next g es r before after
+  IsFull : (h : GuestView) → StepCall (Ok true) 0 g h before after → edge_limit < length (with_step h.edge es) → r ≡ Err errors.Union → AfterStep next g es r before after
+  Fails : (e : SysError) (h : GuestView) → StepCall (Err e) 0 g h before after → r ≡ Err (error_of e) → AfterStep next g es r before after
   Stays : (g.state.stop ≡ Running → ⊥) → Stands g es r before after → AfterStep next g es r before after
   RunsOut : Wants r before after → AfterStep next g es r before after
 

@@ -1,8 +1,8 @@
 use Rattle.std.proofs.Common.{◌≡◌, Some, arith, inl, sym, ◌∙◌}
 use Rattle.std.specs.Ordering.{nat_cmp}
 use Rattle.std.specs.BTreeSet.{contains}
-use Rattle.lift_flow.specs.Blocks.{follow_of}
-use Rattle.lift_flow.proofs.Follows.{follow_exec}
+use Rattle.block_cut.specs.Blocks.{follow_of}
+use Rattle.block_cut.proofs.Follows.{follow_exec}
 use Rattle.flow_graph.proofs.Reach.{adds, sound_more, closed_more, added_more, reached_more}
 use Rattle.flow_graph.proofs.starts.add_start.Goals as goal
 

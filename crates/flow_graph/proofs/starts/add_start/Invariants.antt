@@ -3,7 +3,7 @@ use Rattle.std.specs.Prelude.{IsTrue}
 use Rattle.std.specs.Ordering.{nat_cmp}
 use Rattle.elf_read.specs.Elf.{is_exec}
 use Rattle.std.specs.BTreeSet.{contains, btree_set_len}
-use Rattle.lift_flow.specs.Blocks.{follow_of}
+use Rattle.block_cut.specs.Blocks.{follow_of}
 use Rattle.flow_graph.specs.Graph.{IsReached}
 use Rattle.flow_graph.proofs.starts.add_start.Given as goal
 

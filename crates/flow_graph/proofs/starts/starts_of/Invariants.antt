@@ -2,7 +2,7 @@ use Rattle.std.proofs.Common.{◌≡◌, ℕ, ◌≤◌, Some, take}
 use Rattle.std.specs.Prelude.{IsTrue, Contains}
 use Rattle.std.specs.Ordering.{nat_cmp}
 use Rattle.std.specs.BTreeSet.{contains, btree_set_len}
-use Rattle.lift_flow.specs.Blocks.{follow_of}
+use Rattle.block_cut.specs.Blocks.{follow_of}
 use Rattle.trace_file.specs.Edges.{Edge}
 use Rattle.flow_graph.specs.Graph.{IsStart}
 use Rattle.flow_graph.proofs.starts.starts_of.Given as goal

@@ -1,6 +1,6 @@
 use Rattle.std.proofs.Common.{ℕ, Ok, subst}
 use Rattle.guest_mem.specs.View.{MemoryView}
-use Rattle.ia_inst.specs.Act.{End, Next, Denied, Divided, Called, perform}
+use Rattle.ia_inst.specs.Act.{Completion, Next, Denied, Divided, Called, perform}
 use Rattle.ia_inst.specs.Meaning.{meaning}
 use Rattle.ia_meaning.specs.declared.cpu.Cpu.{Cpu}
 use Rattle.ia_meaning.specs.declared.cpu.Outcome.TheVariants as outcome
@@ -8,7 +8,7 @@ use Rattle.ia_meaning.specs.Effect.{view, Goes, Does, Comes}
 use Rattle.ia_meaning.proofs.dispatch.execute.Goals as goal
 
 -- what goes on after a step was counted is what goes on from the state before
-comes : (e : End) (old new : Cpu) (x : ℕ) (m n : MemoryView) → Goes e (Ok tt) (record old { undefined = x }) m new n → Comes e outcome.Next old m new n
+comes : (e : Completion) (old new : Cpu) (x : ℕ) (m n : MemoryView) → Goes e (Ok tt) (record old { undefined = x }) m new n → Comes e outcome.Next old m new n
 comes (Next u rs to) old new x m n h = (h.0, h.1, h.3)
 comes (Denied at) old new x m n h = absurd h
 comes Divided old new x m n h = absurd h

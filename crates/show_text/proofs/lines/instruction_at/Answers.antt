@@ -1,5 +1,5 @@
 use Rattle.std.proofs.Common.{Some, sym, ◌∙◌}
-use Rattle.lift_flow.proofs.Standing.{read_here, inside}
+use Rattle.block_cut.proofs.Standing.{read_here, inside}
 use Rattle.show_text.proofs.lines.instruction_at.Goals as goal
 
 pub returns-in_default-clause-inst : goal.returns-in_default-clause-inst

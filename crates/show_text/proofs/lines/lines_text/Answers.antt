@@ -1,6 +1,6 @@
 use Rattle.std.proofs.Common.{◌+◌, ◌-◌, [], ◌++◌, refl, ap, ◌∙◌, arith, string_bytes}
-use Rattle.lift_flow.specs.Places.{Placed}
-use Rattle.lift_flow.specs.Blocks.{block_of}
+use Rattle.block_cut.specs.Places.{Placed}
+use Rattle.block_cut.specs.Blocks.{block_of}
 use Rattle.show_text.specs.Listing.{line_text, line_of}
 use Rattle.show_text.proofs.Listed.{none_listed, all_listed, one_left, one_listed, same_listed}
 use Rattle.show_text.proofs.lines.lines_text.Goals as goal

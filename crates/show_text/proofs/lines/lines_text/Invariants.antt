@@ -1,5 +1,5 @@
 use Rattle.std.proofs.Common.{◌-◌, string_bytes}
-use Rattle.lift_flow.specs.Blocks.{block_of}
+use Rattle.block_cut.specs.Blocks.{block_of}
 use Rattle.show_text.proofs.Listed.{IsListed}
 use Rattle.show_text.proofs.lines.lines_text.Given as goal
 

@@ -1,7 +1,7 @@
 //! The cut of a block.
 ghost use Rattle.std.specs.Prelude.{◌≡◌, ◌+◌, ◌<◌, ◌≤◌, ◌^◌, IsTrue};
 ghost use Rattle.elf_read.specs.Elf.{IsGuest, is_exec};
-ghost use Rattle.lift_flow.specs.Blocks.{block_of, cut_of, follow_of};
+ghost use Rattle.block_cut.specs.Blocks.{block_of, cut_of, follow_of};
 
 use crate::ends::{Cut, End};
 use crate::places::placed;

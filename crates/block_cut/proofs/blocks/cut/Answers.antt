@@ -1,7 +1,7 @@
 use Rattle.std.proofs.Common.{sym, ap, ◌∙◌, arith}
-use Rattle.lift_flow.specs.declared.ends.Cut.{Cut}
-use Rattle.lift_flow.proofs.Reading.{none_read, plain_read, transfer_read}
-use Rattle.lift_flow.proofs.blocks.cut.Goals as goal
+use Rattle.block_cut.specs.declared.ends.Cut.{Cut}
+use Rattle.block_cut.proofs.Reading.{none_read, plain_read, transfer_read}
+use Rattle.block_cut.proofs.blocks.cut.Goals as goal
 
 pub loop-read-init : goal.loop-read-init
 loop-read-init c = record { few = omega arith; fits = omega arith; read = none_read c.args.exe.now c.args.start }

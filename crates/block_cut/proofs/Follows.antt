@@ -3,8 +3,8 @@ use Rattle.std.proofs.Common.{◌≡◌, ℕ, ◌+◌, Bool, true, false, ◌&&�
 use Rattle.std.specs.Bool.{then_some}
 use Rattle.elf_read.specs.declared.exe.Exe.{Exe}
 use Rattle.elf_read.specs.Elf.{is_exec}
-use Rattle.lift_flow.specs.declared.ends.Cut.{Cut}
-use Rattle.lift_flow.specs.Blocks.{block_of, cut_of, is_followed, next_of, follow_of}
+use Rattle.block_cut.specs.declared.ends.Cut.{Cut}
+use Rattle.block_cut.specs.Blocks.{block_of, cut_of, is_followed, next_of, follow_of}
 
 -- where the end says so of a cut that is right
 pub none_follows : (exe : Exe) (start : ℕ) (cut : Cut) → cut ≡ cut_of start (block_of exe start) → is_followed cut.end ≡ false → None ≡ follow_of exe start

@@ -3,7 +3,7 @@ ghost use Rattle.std.specs.Prelude.{◌≡◌, ◌+◌, ◌≤◌, IsTrue, IfSom
 ghost use Rattle.elf_read.specs.Elf.{IsGuest};
 ghost use Rattle.ia_inst.specs.Canonical.{valid_of};
 ghost use Rattle.ia_inst.specs.Instructions.{decode_of};
-ghost use Rattle.lift_flow.specs.Places.{found_at, inst_found};
+ghost use Rattle.block_cut.specs.Places.{found_at, inst_found};
 
 use elf_read::{Exe, exec_bytes};
 use ia_decode::decode;

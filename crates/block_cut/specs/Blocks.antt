@@ -7,12 +7,12 @@ use Rattle.ia_inst.specs.declared.inst.Kind.{Kind}
 use Rattle.ia_inst.specs.declared.inst.Kind.TheVariants as kinds
 use Rattle.ia_inst.specs.Kinds.{kind_of}
 use Rattle.ia_inst.specs.Step.{Found, NoCode, NoInst, There}
-use Rattle.lift_flow.specs.declared.ends.End.{End}
-use Rattle.lift_flow.specs.declared.ends.End.TheVariants.{Transfer, Island, BeforeIsland, Unreadable, Full}
-use Rattle.lift_flow.specs.declared.ends.Cut.{Cut}
-use Rattle.lift_flow.specs.Places.{Placed, found_at}
+use Rattle.block_cut.specs.declared.ends.End.{End}
+use Rattle.block_cut.specs.declared.ends.End.TheVariants.{Transfer, Island, BeforeIsland, Unreadable, Full}
+use Rattle.block_cut.specs.declared.ends.Cut.{Cut}
+use Rattle.block_cut.specs.Places.{Placed, found_at}
 
-pub record Block : Type 0 where
+pub record BasicBlock : Type 0 where
   pub insts : List Placed
   pub end : End
 
@@ -58,46 +58,46 @@ EndsSo exe next is BeforeIsland = ArePlain is × (0 < length is) × (length is <
 EndsSo exe next is Unreadable = ArePlain is × (length is < 64) × (kind_found (found_at exe next) ≡ None)
 EndsSo exe next is Full = ArePlain is × (length is ≡ 64)
 
-pub record IsBlock (exe : Exe) (start : ℕ) (b : Block) : Type 0 where
+pub record IsBlock (exe : Exe) (start : ℕ) (b : BasicBlock) : Type 0 where
   pub stand : StandFrom exe start b.insts
   pub ends : EndsSo exe (start + size_of b.insts) b.insts b.end
 
 -- ---- the block of a start
 
 -- an instruction, and the rest of the block behind it
-abbrev pub before : Placed → Block → Block
+abbrev pub before : Placed → BasicBlock → BasicBlock
 before p b = record { insts = p ∷ b.insts; end = b.end }
 
-abbrev pub ends_at : End → Block
+abbrev pub ends_at : End → BasicBlock
 ends_at end = record { insts = []; end = end }
 
 -- where an instruction of this kind stands, the first of the block or not
-abbrev pub block_by : Bool → Kind → Placed → Block → Block
+abbrev pub block_by : Bool → Kind → Placed → BasicBlock → BasicBlock
 block_by first kinds.Plain p rest = before p rest
 block_by first kinds.Transfer p rest = before p (ends_at Transfer)
 block_by true kinds.Island p rest = before p (ends_at Island)
 block_by false kinds.Island p rest = ends_at BeforeIsland
 
-abbrev pub block_at : Bool → Found → ℕ → (ℕ → Block) → Block
+abbrev pub block_at : Bool → Found → ℕ → (ℕ → BasicBlock) → BasicBlock
 block_at first NoCode at rest = ends_at Unreadable
 block_at first NoInst at rest = ends_at Unreadable
 block_at first (There i n) at rest = block_by first (kind_of i) (record { at = at; inst = i; size = n }) (rest (at + n))
 
 -- from an address on, with room for so many instructions
-abbrev pub block_from : Exe → Bool → ℕ → ℕ → Block
+abbrev pub block_from : Exe → Bool → ℕ → ℕ → BasicBlock
 block_from exe first zero at = ends_at Full
 block_from exe first (suc n) at = block_at first (found_at exe at) at (block_from exe false n)
 
-unfoldable pub block_of : Exe → ℕ → Block
+unfoldable pub block_of : Exe → ℕ → BasicBlock
 block_of exe start = block_from exe true 64 start
 
 -- each start has its block, and no other
 abbrev pub EachHasOneBlock : Type 0
-EachHasOneBlock = (exe : Exe) (start : ℕ) (b : Block) → IsBlock exe start b ↔ (b ≡ block_of exe start)
+EachHasOneBlock = (exe : Exe) (start : ℕ) (b : BasicBlock) → IsBlock exe start b ↔ (b ≡ block_of exe start)
 
 -- ---- what is told of it
 
-abbrev pub cut_of : ℕ → Block → Cut
+abbrev pub cut_of : ℕ → BasicBlock → Cut
 cut_of start b = record { count = length b.insts; len = size_of b.insts; end = b.end; last = last_of start b.insts }
 
 -- a block that ends so is followed by the start behind it

@@ -1,6 +1,6 @@
 use Rattle.std.proofs.Common.{◌-◌, ◌+◌, ◌<◌, ◌≤◌, ◌^◌}
-use Rattle.lift_flow.proofs.Reading.{IsRead}
-use Rattle.lift_flow.proofs.blocks.cut.Given as goal
+use Rattle.block_cut.proofs.Reading.{IsRead}
+use Rattle.block_cut.proofs.blocks.cut.Given as goal
 
 abbrev pub invariant-loop-read : goal.invariant-loop-read
 invariant-loop-read l = record {

@@ -10,14 +10,14 @@ use Rattle.ia_inst.specs.declared.inst.Kind.{Kind}
 use Rattle.ia_inst.specs.declared.inst.Kind.TheVariants as kinds
 use Rattle.ia_inst.specs.Kinds.{kind_of}
 use Rattle.ia_inst.specs.Step.{Found, NoCode, NoInst, There, found_from}
-use Rattle.lift_flow.specs.declared.ends.End.{End}
-use Rattle.lift_flow.specs.declared.ends.End.TheVariants.{Transfer, Island, BeforeIsland, Unreadable, Full}
-use Rattle.lift_flow.specs.declared.ends.Cut.{Cut}
-use Rattle.lift_flow.specs.Places.{Placed, found_at, inst_found}
-use Rattle.lift_flow.specs.Blocks.{Block, size_of, last_of, before, ends_at, block_by, block_at, block_from, block_of, cut_of}
+use Rattle.block_cut.specs.declared.ends.End.{End}
+use Rattle.block_cut.specs.declared.ends.End.TheVariants.{Transfer, Island, BeforeIsland, Unreadable, Full}
+use Rattle.block_cut.specs.declared.ends.Cut.{Cut}
+use Rattle.block_cut.specs.Places.{Placed, found_at, inst_found}
+use Rattle.block_cut.specs.Blocks.{BasicBlock, size_of, last_of, before, ends_at, block_by, block_at, block_from, block_of, cut_of}
 
 -- instructions before a block
-abbrev pub after : List Placed → Block → Block
+abbrev pub after : List Placed → BasicBlock → BasicBlock
 after ps b = record { insts = ps ++ b.insts; end = b.end }
 
 -- so many instructions have been read: the block goes on with what is read next
@@ -56,7 +56,7 @@ there NoCode i n e = cc
 there NoInst i n e = cc
 there (There j m) i n e = sym (ap found_from e)
 
-nothing : (f : Found) (first : Bool) (at : ℕ) (rest : ℕ → Block) → None ≡ inst_found f → block_at first f at rest ≡ ends_at Unreadable
+nothing : (f : Found) (first : Bool) (at : ℕ) (rest : ℕ → BasicBlock) → None ≡ inst_found f → block_at first f at rest ≡ ends_at Unreadable
 nothing NoCode first at rest e = refl
 nothing NoInst first at rest e = refl
 nothing (There j m) first at rest e = cc

@@ -1,7 +1,7 @@
 //! Where transfers lead.
 ghost use Rattle.std.specs.Prelude.{◌≡◌};
 ghost use Rattle.elf_read.specs.Elf.{IsGuest};
-ghost use Rattle.lift_flow.specs.Transfers.{leads_to};
+ghost use Rattle.block_cut.specs.Transfers.{leads_to};
 
 use crate::places::placed;
 use elf_read::Exe;

@@ -14,7 +14,7 @@ use Rattle.ia_inst.specs.Instructions.{decode_of}
 use Rattle.ia_inst.specs.Step.{NoCode, found_from}
 use Rattle.ia_decode.proofs.Answered.{decode_take, decode_length, decode_valid}
 use Rattle.ia_decode.proofs.Steps.{IsBytes}
-use Rattle.lift_flow.specs.Places.{found_at, inst_found}
+use Rattle.block_cut.specs.Places.{found_at, inst_found}
 
 -- bytes that are read are bytes, so what they spell is valid
 pub valid_read : (bytes : List ℕ) (r : Option (Inst × ℕ)) → IsBytes bytes → r ≡ decode_of bytes → IfSome r (λ i. IsTrue (valid_of i.0))

@@ -5,7 +5,7 @@ use Rattle.ia_inst.specs.declared.inst.Inst.{Inst}
 use Rattle.ia_inst.specs.declared.inst.Inst.TheVariants.{Jcc, Jmp, JmpRm, Call, CallRm, Ret}
 use Rattle.ia_inst.specs.Meaning.{wrap}
 use Rattle.ia_inst.specs.Step.{Found, NoCode, NoInst, There}
-use Rattle.lift_flow.specs.Places.{found_at}
+use Rattle.block_cut.specs.Places.{found_at}
 
 -- the targets of an instruction of n bytes at an address: none, where it is no direct transfer
 abbrev pub direct_targets : Inst → ℕ → ℕ → List ℕ

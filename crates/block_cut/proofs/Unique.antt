@@ -7,10 +7,10 @@ use Rattle.ia_inst.specs.declared.inst.Kind.{Kind}
 use Rattle.ia_inst.specs.declared.inst.Kind.TheVariants as kinds
 use Rattle.ia_inst.specs.Kinds.{kind_of}
 use Rattle.ia_inst.specs.Step.{Found, NoCode, NoInst, There}
-use Rattle.lift_flow.specs.declared.ends.End.{End}
-use Rattle.lift_flow.specs.declared.ends.End.TheVariants.{Transfer, Island, BeforeIsland, Unreadable, Full}
-use Rattle.lift_flow.specs.Places.{Placed, found_at}
-use Rattle.lift_flow.specs.Blocks.{Block, size_of, StandFrom, IsOfKind, ArePlain, EndWith, kind_found, IsBlock, before, ends_at, block_by, block_at, block_from, block_of, EachHasOneBlock}
+use Rattle.block_cut.specs.declared.ends.End.{End}
+use Rattle.block_cut.specs.declared.ends.End.TheVariants.{Transfer, Island, BeforeIsland, Unreadable, Full}
+use Rattle.block_cut.specs.Places.{Placed, found_at}
+use Rattle.block_cut.specs.Blocks.{BasicBlock, size_of, StandFrom, IsOfKind, ArePlain, EndWith, kind_found, IsBlock, before, ends_at, block_by, block_at, block_from, block_of, EachHasOneBlock}
 
 -- the rest of a block, with room for so many instructions: the first of the block is there or not
 abbrev EndsFrom : Exe → Bool → ℕ → ℕ → List Placed → End → Type 0
@@ -20,11 +20,11 @@ EndsFrom exe first room next is BeforeIsland = ArePlain is × (first ≡ true �
 EndsFrom exe first room next is Unreadable = ArePlain is × (length is < room) × (kind_found (found_at exe next) ≡ None)
 EndsFrom exe first room next is Full = ArePlain is × (length is ≡ room)
 
-record IsFrom (exe : Exe) (first : Bool) (room at : ℕ) (b : Block) : Type 0 where
+record IsFrom (exe : Exe) (first : Bool) (room at : ℕ) (b : BasicBlock) : Type 0 where
   stand : StandFrom exe at b.insts
   ends : EndsFrom exe first room (at + size_of b.insts) b.insts b.end
 
-abbrev block : List Placed → End → Block
+abbrev block : List Placed → End → BasicBlock
 block is e = record { insts = is; end = e }
 
 size_cons : (p : Placed) (is : List Placed) → size_of (p ∷ is) ≡ p.size + size_of is
@@ -43,7 +43,7 @@ end_more exe first room next p is BeforeIsland plain h = ((plain, h.0), (λ _. o
 end_more exe first room next p is Unreadable plain h = ((plain, h.0), omega (arith, h.1), h.2)
 end_more exe first room next p is Full plain h = ((plain, h.0), omega (arith, h.1))
 
-more_from : (exe : Exe) (first : Bool) (room : ℕ) (p : Placed) (b : Block) → found_at exe p.at ≡ There p.inst p.size → IsOfKind kinds.Plain p → IsFrom exe false room (p.at + p.size) b → IsFrom exe first (suc room) p.at (before p b)
+more_from : (exe : Exe) (first : Bool) (room : ℕ) (p : Placed) (b : BasicBlock) → found_at exe p.at ≡ There p.inst p.size → IsOfKind kinds.Plain p → IsFrom exe false room (p.at + p.size) b → IsFrom exe first (suc room) p.at (before p b)
 more_from exe first room p b there plain h = record {
   stand = (refl, there, h.stand);
   ends =
@@ -101,7 +101,7 @@ end_less exe first room next p is BeforeIsland plain h = (h.0.1, (λ e. no_truth
 end_less exe first room next p is Unreadable plain h = (h.0.1, omega (arith, h.1), h.2)
 end_less exe first room next p is Full plain h = (h.0.1, omega (arith, h.1))
 
-island_there : (f : Found) (at : ℕ) (rest : ℕ → Block) → kind_found f ≡ Some kinds.Island → block_at false f at rest ≡ ends_at BeforeIsland
+island_there : (f : Found) (at : ℕ) (rest : ℕ → BasicBlock) → kind_found f ≡ Some kinds.Island → block_at false f at rest ≡ ends_at BeforeIsland
 island_there NoCode at rest e = cc
 island_there NoInst at rest e = cc
 island_there (There i n) at rest e = ap (λ k. block_by false k (record { at = at; inst = i; size = n }) (rest (at + n))) (ap (unwrap kinds.Plain) e)
@@ -110,7 +110,7 @@ island_there (There i n) at rest e = ap (λ k. block_by false k (record { at = a
     unwrap d None = d
     unwrap d (Some k) = k
 
-none_there : (f : Found) (first : Bool) (at : ℕ) (rest : ℕ → Block) → kind_found f ≡ None → block_at first f at rest ≡ ends_at Unreadable
+none_there : (f : Found) (first : Bool) (at : ℕ) (rest : ℕ → BasicBlock) → kind_found f ≡ None → block_at first f at rest ≡ ends_at Unreadable
 none_there NoCode first at rest e = refl
 none_there NoInst first at rest e = refl
 none_there (There i n) first at rest e = cc
@@ -176,9 +176,9 @@ pub block_is : (exe : Exe) (start : ℕ) → IsBlock exe start (block_of exe sta
 unfolding block_of
 block_is exe start = to_block exe start (block_from exe true 64 start).insts (block_from exe true 64 start).end (is_from exe true 64 start)
 
-pub only_block : (exe : Exe) (start : ℕ) (b : Block) → IsBlock exe start b → b ≡ block_of exe start
+pub only_block : (exe : Exe) (start : ℕ) (b : BasicBlock) → IsBlock exe start b → b ≡ block_of exe start
 unfolding block_of
 only_block exe start b h = is_read exe true 64 start b.insts b.end (of_block exe start b.insts b.end h)
 
 pub has_one_block : EachHasOneBlock
-has_one_block exe start b = (only_block exe start b, (λ e. let P : Block → Type 0 = IsBlock exe start in subst P (sym e) (block_is exe start)))
+has_one_block exe start b = (only_block exe start b, (λ e. let P : BasicBlock → Type 0 = IsBlock exe start in subst P (sym e) (block_is exe start)))

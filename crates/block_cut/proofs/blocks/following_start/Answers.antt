@@ -1,7 +1,7 @@
 use Rattle.std.proofs.Common.{◌≡◌, true, false, ap, ◌∙◌, inl, inr}
-use Rattle.lift_flow.specs.Blocks.{is_followed}
-use Rattle.lift_flow.proofs.Follows.{none_follows, next_follows}
-use Rattle.lift_flow.proofs.blocks.following_start.Goals as goal
+use Rattle.block_cut.specs.Blocks.{is_followed}
+use Rattle.block_cut.proofs.Follows.{none_follows, next_follows}
+use Rattle.block_cut.proofs.blocks.following_start.Goals as goal
 
 pub returns-in-Transfer : goal.returns-in-Transfer
 returns-in-Transfer c =
