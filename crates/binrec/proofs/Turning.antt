@@ -2,7 +2,7 @@
 use Rattle.std.proofs.Common.{◌≡◌, ◌<◌, ◌≤◌, ◌+◌, ℕ, zero, suc, Bool, true, false, IsTrue, List, Result, Ok, Err, refl, sym, ◌∙◌, ap, subst, inr}
 use Rattle.br_outside.specs.Outside.{ShelfView}
 use Rattle.br_word.specs.State.{State, RunState, Running, Exited, Faulted}
-use Rattle.guest_sys.specs.Streams.{Streams, Tells}
+use Rattle.br_outside.specs.Streams.{Streams, Tells}
 use Rattle.guest_sys.specs.Machine.{fed}
 use Rattle.guest_sys.specs.Calls.{asks}
 use Rattle.guest_sys.specs.declared.answers.SysError.{SysError}

@@ -5,7 +5,7 @@ use Rattle.std.proofs.lemmas.Bool.Decides.{nat_tests}
 use Rattle.br_outside.specs.Outside.{StreamView, Took}
 use Rattle.guest_sys.specs.declared.answers.SysError.{SysError}
 use Rattle.guest_sys.specs.declared.answers.SysError.TheVariants.{Input, Out, Report, Memory}
-use Rattle.guest_sys.specs.Streams.{Steady, Fails}
+use Rattle.br_outside.specs.Streams.{Steady, Fails}
 use Rattle.guest_sys.specs.Parts.{TakesPiece, HasTakenMore, AddsPiece, Takes}
 
 -- these bytes were taken

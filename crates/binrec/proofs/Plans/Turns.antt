@@ -2,7 +2,7 @@
 use Rattle.std.proofs.Common.{◌≡◌, ◌≤◌, ℕ, List, [], ◌++◌, take, refl, sym, ◌∙◌, ap, subst, arith}
 use Rattle.std.specs.Option.{option_map}
 use Rattle.br_outside.specs.Outside.{ShelfView, StreamView}
-use Rattle.guest_sys.specs.Streams.{Steady, Fails}
+use Rattle.br_outside.specs.Streams.{Steady, Fails}
 use Rattle.binrec.specs.Plans.World.{World}
 use Rattle.binrec.specs.Plans.Texts.{End}
 use Rattle.binrec.specs.Plans.Plan.{Turned, IsTurned, InputFails, OutputFails, ReportFails, TurnRunsOut}

@@ -7,7 +7,7 @@ use Rattle.br_outside.specs.declared.errors.StoreError.{StoreError}
 use Rattle.br_outside.specs.declared.errors.StoreError.TheVariants as store_errors
 use Rattle.br_outside.specs.declared.errors.SinkError.{SinkError}
 use Rattle.br_outside.specs.declared.errors.SinkError.TheVariants as sink_errors
-use Rattle.guest_sys.specs.Streams.{Steady, Fails, Tells, HasLeft, WasGiven, Leaves, Gains}
+use Rattle.br_outside.specs.Streams.{Steady, Fails, Tells, HasLeft, WasGiven, Leaves, Gains}
 use Rattle.binrec.specs.Plans.World.{World, on_shelf, on_out}
 use Rattle.binrec.specs.Plans.Texts.{Finished, End}
 use Rattle.binrec.specs.declared.acts.stop.Stop.TheVariants.{Because, Outside, Memory}

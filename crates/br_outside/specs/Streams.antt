@@ -1,4 +1,4 @@
--- The input of a guest and its two outputs, as they are seen before and after calls.
+-- A source and two sinks, as they are seen before and after calls: the input of a guest and its two outputs.
 use Rattle.std.specs.Prelude.{◌≡◌, ℕ, ◌≤◌, List, [], ◌++◌, Some, IfSome, option_map, IsTrue}
 use Rattle.br_outside.specs.Outside.{StreamView, Rose}
 
