@@ -1,17 +1,17 @@
 //! The words of the command line, as the system holds them.
 ghost use Rattle.std.specs.Prelude.{◌<◌, ◌^◌, IfOk, length, map, string_bytes};
 ghost use Rattle.binrec.specs.Words.{wrong_in};
-ghost use Rattle.binrec.specs.Plans.Happened.{TellsStop};
-ghost use Rattle.binrec.specs.declared.acts.stop.Stop.TheVariants.{Because};
-ghost use Rattle.binrec.specs.declared.acts.stop.Cause.TheVariants.{Usage};
+ghost use Rattle.top_plan.specs.Happened.{TellsHalt};
+ghost use Rattle.top_plan.specs.declared.ends.Halt.TheVariants.{Because};
+ghost use Rattle.top_plan.specs.declared.ends.Cause.TheVariants.{Usage};
 
-use crate::acts::report::tell_stop;
-use crate::acts::stop::{Cause, Stop};
 use crate::top::Status;
 use crate::words::read_command;
 use br_outside::Sink;
 use std::alloc::{AllocError, Global};
 use std::env::{Env, FillError};
+use top_plan::ends::{Cause, Halt};
+use top_plan::report::tell_halt;
 
 /// The words behind the program's name.
 #[derive(Debug, Drop)]
@@ -67,12 +67,12 @@ pub fn read_arguments<E: Env>(alloc: Global, env: &E) -> Result<Arguments, Alloc
 /// has the position of the first of them that is wrong, or else of that one.
 pub fn tell_broken<R: Sink>(alloc: Global, report: &mut R, words: &[String]) -> Status
     requires { length words.now < 2 ^ 32 }
-    ensures { TellsStop (Because (Usage (wrong_in (map string_bytes words.now)))) (R.seen report.old) result.0 (R.seen report.new) }
+    ensures { TellsHalt (Because (Usage (wrong_in (map string_bytes words.now)))) (R.seen report.old) result.0 (R.seen report.new) }
 {
     let behind = words.len() as u32;
     let at = match read_command(words) {
         Ok(_) => behind,
         Err(at) => at.min(behind),
     };
-    Status(tell_stop(alloc, report, Stop::Because(Cause::Usage(at))))
+    Status(tell_halt(alloc, report, Halt::Because(Cause::Usage(at))))
 }

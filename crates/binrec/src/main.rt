@@ -5,7 +5,6 @@
 //! the blocks that they have seen.
 #![tactic(auto)]
 
-mod acts;
 mod arguments;
 mod commands;
 #[cfg(test)]
@@ -13,11 +12,11 @@ mod tests;
 mod top;
 mod words;
 
-use acts::report::tell;
 use arguments::{read_arguments, tell_broken};
 use br_real::{ErrorSink, FileShelf, InputSource, OutputSink};
 use std::process::ExitCode;
 use top::binrec;
+use top_plan::report::tell;
 
 /// Does what the words ask for over real files and the standard streams, and ends with the status.
 ///
