@@ -9,3 +9,4 @@ pub mod Causes
 pub mod Reported
 pub mod Checking
 pub mod Printing
+pub mod Outcomes

@@ -5,3 +5,4 @@ pub mod Parts
 pub mod Happened
 pub mod Expected
 pub mod Partial
+pub mod Outcomes

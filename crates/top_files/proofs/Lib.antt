@@ -1,0 +1,2 @@
+pub mod TracesRun
+pub mod ReadMeant
