@@ -1,2 +1,3 @@
 pub mod TracesRun
 pub mod ReadMeant
+pub mod PartTurns

@@ -68,8 +68,8 @@ edges_mean : (word before : ℕ) (next : List Edge → Plan) (means : List Edge 
 unfolding expected
 edges_mean word before next means files s result t h then (Ok es) w =
     let P : Result (List Edge) Cause → Type 0 = λ r. Did (checked r next) files s result t in
-    let by = chosen P (before + length es) 16777216 (Ok es) (Err (Limited limits.Edges)) w in
-    (λ few. then es (by.0 few), λ many. says (Because (Limited limits.Edges)) files s result t h (by.1 many))
+    let by = chosen P (before + length es) 16777216 (Ok es) (Err (Limited (limits.Edges 16777216))) w in
+    (λ few. then es (by.0 few), λ many. says (Because (Limited (limits.Edges 16777216))) files s result t h (by.1 many))
 edges_mean word before next means files s result t h then (Err refused) w = says (Because (RefusedWord word refused.number refused.place)) files s result t h w
 
 trace_means : (digest : List ℕ) (word before : ℕ) (next : List Edge → Plan) (means : List Edge → Type 0) (files : Files) (s : World) (result : ℕ) (t : World) → IsQuiet files s t → Leads next means files s result t

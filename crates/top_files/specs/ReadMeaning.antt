@@ -17,7 +17,7 @@ use Rattle.top_plan.specs.declared.ends.Limit.TheVariants as limits
 
 -- By the content of a trace; `next` is what its edges lead to, and `before` how many edges the traces before it have.
 abbrev pub ReadsEdges : Result (List Edge) trace_file.Refused → (List Edge → Type 0) → ℕ → ℕ → World → ℕ → World → Type 0
-ReadsEdges (Ok es) next word before s result t = (before + length es ≤ 16777216 → next es) × (16777216 < before + length es → OnlySays 7 (cause_text (Limited limits.Edges)) s result t)
+ReadsEdges (Ok es) next word before s result t = (before + length es ≤ 16777216 → next es) × (16777216 < before + length es → OnlySays 7 (cause_text (Limited (limits.Edges 16777216))) s result t)
 ReadsEdges (Err refused) next word before s result t = OnlySays 2 (cause_text (RefusedWord word refused.number refused.place)) s result t
 
 abbrev pub ReadsTrace : Option (List ℕ) → (List Edge → Type 0) → List ℕ → ℕ → ℕ → World → ℕ → World → Type 0

@@ -16,7 +16,7 @@ edges_of_word word (Err refused) = Err (RefusedWord word refused.number refused.
 
 -- the edges of a trace, unless so many more than those before it are too many
 abbrev pub counted : ℕ → Result (List Edge) Cause → Result (List Edge) Cause
-counted before (Ok es) = cond (nat_le (before + length es) 16777216) (Ok es) (Err (Limited limits.Edges))
+counted before (Ok es) = cond (nat_le (before + length es) 16777216) (Ok es) (Err (Limited (limits.Edges 16777216)))
 counted before (Err cause) = Err cause
 
 -- a trace of the original with this digest is fetched, read and counted
@@ -30,4 +30,4 @@ traces_part digest (name ∷ names) word before next = trace_part digest name wo
 
 -- the union of traces, unless it is too large for one
 abbrev pub limited : List Edge → Result (List Edge) Cause
-limited es = cond (nat_le (length es) 2000000) (Ok es) (Err (Limited limits.Union))
+limited es = cond (nat_le (length es) 2000000) (Ok es) (Err (Limited (limits.Union 2000000)))

@@ -64,7 +64,7 @@ fn counted_edges(
 {
     let edges = edges_of(alloc, bytes, digest, word)?;
     if edges.len() > EDGE_LIMIT - before {
-        return Err(Halt::Because(Cause::Limited(Limit::Edges)));
+        return Err(Halt::Because(Cause::Limited(Limit::Edges(EDGE_LIMIT))));
     }
     Ok(edges)
 }
