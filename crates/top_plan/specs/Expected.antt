@@ -76,7 +76,7 @@ AllTurns P (Stores name bytes next) = AllTurns P next
 AllTurns P (Prints text next) = AllTurns P next
 AllTurns P (Turns turn next) = (left : List ℕ) → AllTurns P (next left) × P (turn left) left (next left)
 
--- a turn after which more of the input may be taken than it uses is the last one that reads
+-- A turn after which more of the input may be taken than it uses is the last one that reads.
 abbrev pub IsSparing : Plan → Type 0
 IsSparing = AllTurns (λ turned left rest. (turned.spare ≡ 0) ⊎ NoInput rest)
 
