@@ -110,7 +110,7 @@ def finer(number, place, data):
 
     if number == 2 and data[:2] == b"#!":
         return "it is a script"
-    if number == 2 and data and all(9 <= b < 127 for b in data[:200]):
+    if number in (1, 2) and data and all(9 <= b < 127 for b in data[:200]):
         return "it is a text"
     if number == 3 and data[4:5] == b"\2":
         return "it is a 64-bit file"

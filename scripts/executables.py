@@ -169,4 +169,5 @@ def digest(data):
 
 
 def is_trace(data):
-    return data[:8] == b"BRTRACE1" and len(data) >= 44
+    """Whether the bytes are a trace of any version: the text, a digit, the digest of its executable, a count."""
+    return data[:7] == b"BRTRACE" and len(data) >= 44

@@ -125,7 +125,8 @@ def forward(reader):
 def run(program, words, source=None):
     """The program with the words; its status and its report line."""
     reader, writer = pipe_above_streams()
-    child = subprocess.Popen([program, *words], stdin=source, stderr=writer)
+    # Where a file may not grow, a program that does not hear the signal says `outside shelf`, and leaves no part behind.
+    child = subprocess.Popen([program, *words], stdin=source, stderr=writer, restore_signals=False)
     os.close(writer)
     signal.signal(signal.SIGINT, signal.SIG_IGN)
     tail, whole = forward(reader)
