@@ -1,5 +1,5 @@
 -- The commands that there are so far, read from the words of the command line.
-use Rattle.std.specs.Prelude.{◌≡◌, ℕ, min, Bool, ◌||◌, List, [], ◌∷◌, codes, Result, Ok, Err, cond}
+use Rattle.std.specs.Prelude.{◌≡◌, ℕ, min, Bool, ◌||◌, List, [], ◌∷◌, length, codes, Result, Ok, Err, cond}
 use Rattle.std.specs.Str.{bytes_eq}
 use Rattle.word_reader.specs.Words.{Asked, Builds, Traces, Runs, Merges, Shows, command}
 use Rattle.word_reader.specs.Reads.{asked_of}
@@ -31,6 +31,14 @@ built_command (Err at) words = Err (wrong_at at words)
 -- the command of the words, or the position of the first wrong word, or how many words there are where one is missing
 abbrev pub asked_by : List (List ℕ) → Result Asked ℕ
 asked_by words = built_command (command words) words
+
+-- the position of the first wrong word where one that is wrong stands behind these
+abbrev pub wrong_or_next : ℕ → Result Asked ℕ → ℕ
+wrong_or_next next (Ok asked) = next
+wrong_or_next next (Err at) = min at next
+
+abbrev pub wrong_in : List (List ℕ) → ℕ
+wrong_in words = wrong_or_next (length words) (asked_by words)
 
 -- what was read is what the words ask
 abbrev pub Reads : Result Command ℕ → Result Asked ℕ → Type 0

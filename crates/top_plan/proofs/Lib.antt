@@ -13,3 +13,4 @@ pub mod Interrupted
 pub mod Causes
 pub mod Steadied
 pub mod Reported
+pub mod Outcomes

@@ -6,3 +6,4 @@ pub mod Happened
 pub mod Expected
 pub mod Partial
 pub mod Steady
+pub mod Outcomes
