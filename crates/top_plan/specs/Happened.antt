@@ -15,7 +15,8 @@ status_after status (Err sink_errors.Memory) = 4
 
 -- The text is given, and decides the status where that fails.
 abbrev pub Tells : List ℕ → ℕ → StreamView → ℕ → StreamView → Type 0
-Tells text status old result new = (answer : Result (Unit {0}) SinkError) × Gave text answer old new × (result ≡ status_after status answer)
+Tells text status old result new =
+    (answer : Result (Unit {0}) SinkError) × Gave text answer old new × (result ≡ status_after status answer)
 
 -- A line is told; where there is none, nothing is given.
 abbrev pub TellsLine : Option (List ℕ) → ℕ → StreamView → ℕ → StreamView → Type 0

@@ -8,6 +8,8 @@ mod law;
 mod line;
 pub mod print;
 pub mod report;
+#[cfg(test)]
+mod tests;
 
 pub use ends::{Cause, Finish, Halt, Limit, Object, Outcome};
 pub use files::{fetch_file, store_file};

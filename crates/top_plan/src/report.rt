@@ -82,7 +82,8 @@ pub fn tell_halt<R: Sink>(report: &mut R, halt: Halt) -> u8
 
 /// Gives the report line of work that is done, and answers the status. Where there is no line, the report is not called.
 pub fn tell_outcome<R: Sink>(report: &mut R, outcome: &Outcome) -> u8
-    ensures { TellsLine (option_map string_bytes outcome.now.line) (finish_status outcome.now.finish) (R.seen report.old) result (R.seen report.new) }
+    ensures { TellsLine (option_map string_bytes outcome.now.line) (finish_status outcome.now.finish)
+        (R.seen report.old) result (R.seen report.new) }
 {
     match &outcome.line {
         Some(line) => tell(report, line.as_bytes(), outcome.finish.status()),
