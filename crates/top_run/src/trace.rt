@@ -77,7 +77,8 @@ fn store_traced<F: Shelf>(
     digest: &[u8; 32],
 ) -> Result<Outcome, Halt>
     requires { length traced.now.edges ≤ UNION_LIMIT }
-    ensures { (w : World) → Went (traced_part target.now digest.now traced.now) (on_shelf w (F.seen shelf.old)) (end_of result) (on_shelf w (F.seen shelf.new)) }
+    ensures { (w : World) → Went (traced_part target.now digest.now traced.now)
+        (on_shelf w (F.seen shelf.old)) (end_of result) (on_shelf w (F.seen shelf.new)) }
 {
     let line = line_of(alloc, traced)?;
     store_trace(alloc, shelf, target, &traced.edges, digest)?;
@@ -108,7 +109,9 @@ pub fn trace_command<F: Shelf, I: Source, O: Sink, R: Sink>(
 ) -> Result<Outcome, Halt>
     requires fit { FitArguments (map string_bytes args.now) }
     requires few { steps ≤ 10 ^ 18 }
-    ensures { Went (trace_plan steps target.now original.now (map string_bytes args.now) word) (world (F.seen shelf.old) (I.seen input.old) (O.seen out.old) (R.seen report.old)) (end_of result) (world (F.seen shelf.new) (I.seen input.new) (O.seen out.new) (R.seen report.new)) }
+    ensures { Went (trace_plan steps target.now original.now (map string_bytes args.now) word)
+        (world (F.seen shelf.old) (I.seen input.old) (O.seen out.old) (R.seen report.old)) (end_of result)
+        (world (F.seen shelf.new) (I.seen input.new) (O.seen out.new) (R.seen report.new)) }
 {
     let subject = fetch_subject(alloc, shelf, original, word)?;
     let traced = trace_guest(alloc, &subject.exe, args, steps, input, out, report)?;
