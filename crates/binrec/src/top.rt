@@ -61,19 +61,33 @@ fn answer<F: Shelf, I: Source, O: Sink, R: Sink>(
         (world (F.seen shelf.old) (I.seen input.old) (O.seen out.old) (R.seen report.old)) result
         (world (F.seen shelf.new) (I.seen input.new) (O.seen out.new) (R.seen report.new)) }
 {
-    let end = match command {
-        Command::Build { n, e, .. } => build_command(alloc, shelf, n, e),
-        Command::Merge { t, e, traces } => merge_command(alloc, shelf, t, e, traces),
-        Command::Show { e, traces } => show_command(alloc, shelf, out, e, traces),
-        Command::Run { steps, e, args } => {
-            run_command(alloc, shelf, input, out, report, steps, e, args, first)
+    match command {
+        Command::Build { n, e, .. } => tell_end(report, build_command(alloc, shelf, n, e)),
+        Command::Merge { t, e, traces } => {
+            tell_end(report, merge_command(alloc, shelf, t, e, traces))
         }
-        Command::Trace { steps, t, e, args } => trace_command(
-            alloc, shelf, input, out, report, steps, t, e, args, first + 1,
-        ),
-        Command::Session { .. } | Command::Demo { .. } => return tell_usage(report, 0),
-    };
-    tell_end(report, end)
+        Command::Show { e, traces } => tell_end(report, show_command(alloc, shelf, out, e, traces)),
+        Command::Run { steps, e, args } => {
+            let end = run_command(alloc, shelf, input, out, report, steps, e, args, first);
+            tell_end(report, end)
+        }
+        Command::Trace { steps, t, e, args } => {
+            let end = trace_command(
+                alloc,
+                shelf,
+                input,
+                out,
+                report,
+                steps,
+                t,
+                e,
+                args,
+                first + 1,
+            );
+            tell_end(report, end)
+        }
+        Command::Session { .. } | Command::Demo { .. } => tell_usage(report, 0),
+    }
 }
 
 /// Does what the words after the program's name ask for, and answers its status.

@@ -6,7 +6,6 @@ use Rattle.build_core.specs.Image.{image}
 use Rattle.top_plan.specs.Plan.{Plan, Ends, Stores}
 use Rattle.top_files.specs.OriginalPart.{original_part}
 use Rattle.top_plan.specs.Outcomes.{done_with}
-use Rattle.binrec.specs.Words.{built}
 
 -- the report line, with the numbers of blocks and of bytes of code, and the length of the file
 abbrev pub built_line : ℕ → ℕ → ℕ → List ℕ
