@@ -167,11 +167,13 @@ pub fn binrec<F: Shelf, I: Source, O: Sink, R: Sink>(
         → MeansRun steps name args (first_name (map string_bytes words.now))
         (world (F.seen shelf.old) (I.seen input.old) (O.seen out.old) (R.seen report.old)) result.0
         (world (F.seen shelf.new) (I.seen input.new) (O.seen out.new) (R.seen report.new)) }
-    ensures trace { (steps : ℕ) (target original : List ℕ) (args : List (List ℕ)) → asked_by (map string_bytes words.now) ≡ Ok (Traces steps target original args)
+    ensures trace { (steps : ℕ) (target original : List ℕ) (args : List (List ℕ))
+        → asked_by (map string_bytes words.now) ≡ Ok (Traces steps target original args)
         → MeansTrace steps target original args (first_name (map string_bytes words.now) + 1)
         (world (F.seen shelf.old) (I.seen input.old) (O.seen out.old) (R.seen report.old)) result.0
         (world (F.seen shelf.new) (I.seen input.new) (O.seen out.new) (R.seen report.new)) }
-    ensures merge { (target original : List ℕ) (names : List (List ℕ)) → asked_by (map string_bytes words.now) ≡ Ok (Merges target original names)
+    ensures merge { (target original : List ℕ) (names : List (List ℕ))
+        → asked_by (map string_bytes words.now) ≡ Ok (Merges target original names)
         → MeansMerge target original names
         (world (F.seen shelf.old) (I.seen input.old) (O.seen out.old) (R.seen report.old)) result.0
         (world (F.seen shelf.new) (I.seen input.new) (O.seen out.new) (R.seen report.new)) }

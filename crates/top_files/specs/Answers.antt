@@ -49,4 +49,5 @@ IsPast limit = OnlySays 7 (cause_text (Limited limit))
 
 -- a content of at most this many bytes is read, and means so; a longer one passes the limit
 abbrev pub UnlessLong : ℕ → List ℕ → Type 0 → World → ℕ → World → Type 0
-UnlessLong limit content Read s result t = (length content ≤ limit → Read) × (limit < length content → IsPast (limits.File limit) s result t)
+UnlessLong limit content Read s result t =
+    (length content ≤ limit → Read) × (limit < length content → IsPast (limits.File limit) s result t)

@@ -30,8 +30,9 @@ abbrev pub ReadsTraces : (List (List Edge) → Type 0)
     → List ℕ → List (List ℕ) → ℕ → ℕ → List (List Edge) → Files → World → ℕ → World → Type 0
 ReadsTraces last digest [] word before done files s result t = last done
 ReadsTraces last digest (name ∷ names) word before done files s result t =
-    let next : List Edge → Type 0 = λ es. ReadsTraces last digest names (word + 1) (before + length es) (done ++ es ∷ []) files s result t in
-    ReadsTrace (files name) next digest word before s result t
+    ReadsTrace (files name)
+    (λ es. ReadsTraces last digest names (word + 1) (before + length es) (done ++ es ∷ []) files s result t)
+    digest word before s result t
 
 -- by what the file is as an original, whose word stands before those of its traces
 abbrev pub ReadsExe : (Exe → List ℕ → List (List Edge) → Type 0)

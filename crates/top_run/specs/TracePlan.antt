@@ -26,7 +26,10 @@ traced_line stop steps undefined edges =
 
 -- the end of the work of a traced run
 abbrev pub traced_as : Traced → Finished
-traced_as t = record { finish = finish_of (stop_of t.stop); line = Some (traced_line (stop_of t.stop) t.steps t.undefined (length t.edges)) }
+traced_as t = record {
+  finish = finish_of (stop_of t.stop);
+  line = Some (traced_line (stop_of t.stop) t.steps t.undefined (length t.edges));
+}
 
 -- the guest has these edges, unless they are too many
 abbrev pub unless_full : (List Edge → Plan) → List Edge → Plan
