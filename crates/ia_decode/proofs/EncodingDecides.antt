@@ -28,8 +28,8 @@ use Rattle.ia_inst.specs.Reading.{◌>>=◌, Read, byte_at, four_at, displacemen
 use Rattle.ia_inst.specs.Prefixes.{prefix_of, with, more, is_bare, is_near, is_return, is_nop, padding_of, width_of, string_of, prefixes_at}
 use Rattle.ia_inst.specs.Opcodes.{opcode_of, second_of}
 use Rattle.ia_inst.specs.Instructions.{two_at, imm_at, binary_is, binary_at, constant_is, constant_at, alu_constant_at, mov_constant_at, absolute_at, memory_of, lea_at, unary_at, step_at, by_at, shift_of, shift_at, multiply_at, alu_byte_at, pop_at, simple_at, hint_at, is_repeat, end_branch_at, extend_at, second_at, escape_at, opcode_at, behind_at, inst_at, decode_of}
-use Rattle.ia_decode.proofs.Steps.{bind_some, some, some_is, none_is}
-use Rattle.ia_decode.proofs.Laws.{taken, not_long, long_not}
+use Rattle.ia_decode.proofs.Readers.{bind_some, some, some_is, none_is}
+use Rattle.ia_decode.proofs.PrefixFree.{taken, not_long, long_not}
 
 -- what a reader took, after which it reads the same whatever follows
 pub record Taken {A : Type 0} (f : List ℕ → Option (A × List ℕ)) (bytes : List ℕ) (x : A × List ℕ) : Type 0 where

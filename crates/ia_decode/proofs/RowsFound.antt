@@ -35,11 +35,11 @@ use Rattle.ia_inst.specs.Reading.{byte_at, four_at, operand_at, Read}
 use Rattle.ia_inst.specs.Prefixes.{is_bare, is_near, is_return, is_nop, padding_of, width_of, string_of, prefixes_at}
 use Rattle.ia_inst.specs.Opcodes.{opcode_of, second_of}
 use Rattle.ia_inst.specs.Instructions.{Done, two_at, imm_at, binary_is, binary_at, constant_is, constant_at, alu_constant_at, mov_constant_at, absolute_at, memory_of, lea_at, unary_at, step_at, by_at, shift_of, shift_at, multiply_at, alu_byte_at, pop_at, simple_at, hint_at, is_repeat, end_branch_at, extend_at, second_at, escape_at, opcode_at, behind_at, inst_at}
-use Rattle.ia_decode.proofs.Steps.{IsBytes, bind_some, some, some_is, none_is, chosen, Takes, byte_found, four_found}
+use Rattle.ia_decode.proofs.Readers.{IsBytes, bind_some, some, some_is, none_is, chosen, Takes, byte_found, four_found}
 use Rattle.ia_decode.proofs.Operands.{operand_found}
-use Rattle.ia_decode.proofs.Heads.{is}
-use Rattle.ia_decode.proofs.Table.{of_byte, whole_test, simple_test, opcode_test, second_test, first_by, opcode_is, second_is}
-use Rattle.ia_decode.proofs.Found.{both_true, not_true, less, guarded, Means, bare, size_only, repeat, size_repeat, repeat_size, branch, padding, other, prefixes_found, bare_is, near_is, return_is, padding_is, IsWidth, narrow, short, full, width_is, pair_front, size_front, string_is, two_found, imm_found}
+use Rattle.ia_decode.proofs.PrefixesReadAgain.{is}
+use Rattle.ia_decode.proofs.OpcodeBytes.{of_byte, whole_test, simple_test, opcode_test, second_test, first_by, opcode_is, second_is}
+use Rattle.ia_decode.proofs.PrefixesFound.{both_true, not_true, less, guarded, Means, bare, size_only, repeat, size_repeat, repeat_size, branch, padding, other, prefixes_found, bare_is, near_is, return_is, padding_is, IsWidth, narrow, short, full, width_is, pair_front, size_front, string_is, two_found, imm_found}
 
 -- behind a head h, which ends in the opcode, a reader took what makes a row
 abbrev Arm : (List ℕ → List ℕ) → List ℕ → Done → Type 0

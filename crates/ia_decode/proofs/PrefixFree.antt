@@ -7,9 +7,9 @@ use Rattle.ia_inst.specs.declared.inst.Inst.{Inst}
 use Rattle.ia_inst.specs.Spells.{Row, Spells}
 use Rattle.ia_inst.specs.Reading.{Gives}
 use Rattle.ia_inst.specs.Instructions.{Done, inst_at, decode_of}
-use Rattle.ia_decode.proofs.Steps.{IsBytes, bind_some, some, some_is, none_is}
-use Rattle.ia_decode.proofs.Again.{row_again}
-use Rattle.ia_decode.proofs.Rows.{inst_found}
+use Rattle.ia_decode.proofs.Readers.{IsBytes, bind_some, some, some_is, none_is}
+use Rattle.ia_decode.proofs.RowsReadAgain.{row_again}
+use Rattle.ia_decode.proofs.RowsFound.{inst_found}
 
 pub taken : (m rest : List ℕ) → length (m ++ rest) - length rest ≡ length m
 taken m rest = omega (arith, length-append m rest)

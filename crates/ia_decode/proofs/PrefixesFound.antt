@@ -16,9 +16,9 @@ use Rattle.ia_inst.specs.declared.prefixes.Prefixes.{Prefixes}
 use Rattle.ia_inst.specs.declared.prefixes.Prefixes.TheVariants.{Bare, Size, Repeat, SizeRepeat, Branch, Padding, Other}
 use Rattle.ia_inst.specs.Prefixes.{prefix_of, with, more, is_bare, is_near, is_return, padding_of, width_of, string_of, prefixes_at}
 use Rattle.ia_inst.specs.Instructions.{two_at, imm_at}
-use Rattle.ia_decode.proofs.Steps.{IsBytes, some, some_is, none_is, byte_found, four_found}
-use Rattle.ia_decode.proofs.Heads.{is}
-use Rattle.ia_decode.proofs.Table.{of_byte}
+use Rattle.ia_decode.proofs.Readers.{IsBytes, some, some_is, none_is, byte_found, four_found}
+use Rattle.ia_decode.proofs.PrefixesReadAgain.{is}
+use Rattle.ia_decode.proofs.OpcodeBytes.{of_byte}
 
 pub both_true : (a b : Bool) → (a && b) ≡ true → (a ≡ true) × (b ≡ true)
 both_true true true e = (refl, refl)

@@ -1,17 +1,17 @@
 -- What is known of an instruction that is read, for the crates above.
-use Rattle.std.proofs.Common.{◌≡◌, ℕ, ◌+◌, ◌-◌, ◌≤◌, List, [], ◌∷◌, ◌++◌, length, take, drop, Option, Some, None, refl, sym, ap, ◌∙◌, append_assoc, arith}
-use Rattle.std.specs.Prelude.{IsTrue}
+use Rattle.std.proofs.Common.{◌≡◌, ℕ, zero, suc, ◌+◌, ◌-◌, ◌<◌, ◌≤◌, List, [], ◌∷◌, ◌++◌, length, take, drop, Option, Some, None, refl, sym, ap, ◌∙◌, append_assoc, arith, lit<}
+use Rattle.std.specs.Prelude.{IsTrue, IfSome, All}
 use Rattle.std.proofs.Math.Seq.{take-append-add}
 use Rattle.std.proofs.lemmas.List.{take-append-drop, take_at, length-append}
 use Rattle.ia_inst.specs.declared.inst.Inst.{Inst}
 use Rattle.ia_inst.specs.Canonical.{valid_of}
-use Rattle.ia_inst.specs.Reading.{byte_at}
+use Rattle.ia_inst.specs.Reading.{Gives, byte_at}
 use Rattle.ia_inst.specs.Prefixes.{prefixes_at}
 use Rattle.ia_inst.specs.Instructions.{behind_at, inst_at, decode_of}
 use Rattle.ia_inst.proofs.Spelled.{row_valid}
-use Rattle.ia_decode.proofs.Steps.{IsBytes, none_is}
-use Rattle.ia_decode.proofs.Laws.{decode_found}
-use Rattle.ia_decode.proofs.Fronts.{decode_alone}
+use Rattle.ia_decode.proofs.Readers.{IsBytes, none_is}
+use Rattle.ia_decode.proofs.PrefixFree.{decode_found}
+use Rattle.ia_decode.proofs.EncodingDecides.{decode_alone}
 
 -- its bytes are read again, whatever follows
 pub decode_front : (bytes : List ℕ) (x : Inst × ℕ) → decode_of bytes ≡ Some x → (rest : List ℕ) → decode_of (take x.1 bytes ++ rest) ≡ Some x
@@ -60,3 +60,18 @@ decode_take bytes = by_answer (decode_of bytes) refl (decode_of (take 15 bytes))
     by_answer None e None f = refl
     by_answer None e (Some y) f = sym (longer bytes y f) ∙ e
     by_answer (Some x) e y f = sym f ∙ shorter bytes x e
+
+-- ---- what is answered
+
+pub bytes_each : (bytes : List ℕ) → All (λ b. b < 256) bytes → IsBytes bytes
+bytes_each [] h i = lit< tt
+bytes_each (b ∷ bs) h zero = h 0 0 (omega arith)
+bytes_each (b ∷ bs) h (suc i) = bytes_each bs (λ k d l. h (suc k) d (omega (arith, l))) i
+
+pub is_valid : (bytes : List ℕ) (r : Option (Inst × ℕ)) → IsBytes bytes → Gives (λ x. (x.0, x.1)) r (decode_of bytes) → IfSome r (λ x. IsTrue (valid_of x.0))
+is_valid bytes None fits h = tt
+is_valid bytes (Some x) fits h = decode_valid bytes x fits h
+
+pub is_short : (bytes : List ℕ) (r : Option (Inst × ℕ)) → Gives (λ x. (x.0, x.1)) r (decode_of bytes) → IfSome r (λ x. (1 ≤ x.1) × (x.1 ≤ 15))
+is_short bytes None h = tt
+is_short bytes (Some x) h = let l = decode_length bytes x h in (l.0, l.1)

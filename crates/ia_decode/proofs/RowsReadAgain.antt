@@ -28,9 +28,9 @@ use Rattle.ia_inst.specs.Reading.{byte_at}
 use Rattle.ia_inst.specs.Prefixes.{string_of, prefixes_at}
 use Rattle.ia_inst.specs.Opcodes.{opcode_of, second_of}
 use Rattle.ia_inst.specs.Instructions.{binary_is, binary_at, constant_is, constant_at, alu_constant_at, mov_constant_at, absolute_at, lea_at, unary_at, step_at, by_at, shift_of, shift_at, multiply_at, alu_byte_at, pop_at, simple_at, hint_at, end_branch_at, extend_at, second_at, escape_at, opcode_at, behind_at, inst_at}
-use Rattle.ia_decode.proofs.Steps.{four_again}
+use Rattle.ia_decode.proofs.Readers.{four_again}
 use Rattle.ia_decode.proofs.Operands.{operand_again}
-use Rattle.ia_decode.proofs.Heads.{each_8, each_16, behind_again, bare_again, class, is_byte, width_again, long_width, pair_again, long_again, two_again, imm_again, padding_again}
+use Rattle.ia_decode.proofs.PrefixesReadAgain.{each_8, each_16, behind_again, bare_again, class, is_byte, width_again, long_width, pair_again, long_again, two_again, imm_again, padding_again}
 
 -- ---- opcodes of a family
 

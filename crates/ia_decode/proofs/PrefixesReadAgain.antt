@@ -15,7 +15,7 @@ use Rattle.ia_inst.specs.Reading.{byte_at}
 use Rattle.ia_inst.specs.Prefixes.{prefix_of, with, padding_of, width_of, prefixes_at}
 use Rattle.ia_inst.specs.Opcodes.{opcode_of}
 use Rattle.ia_inst.specs.Instructions.{two_at, imm_at, opcode_at, behind_at, inst_at}
-use Rattle.ia_decode.proofs.Steps.{some, none_is, four_again}
+use Rattle.ia_decode.proofs.Readers.{some, none_is, four_again}
 
 pub each_8 : (P : ℕ → Type 0) → P 0 → P 1 → P 2 → P 3 → P 4 → P 5 → P 6 → P 7 → (r : ℕ) → r < 8 → P r
 each_8 P a b c d e f g h zero lt = a
