@@ -6,7 +6,7 @@ use Rattle.top_plan.specs.Happened.{Happened, Answered}
 use Rattle.top_plan.specs.Expected.{IsExact, IsComplete, HasCause}
 use Rattle.top_plan.specs.Partial.{IsPartial, IsOrderly}
 use Rattle.top_plan.specs.Steady.{IsSteady}
-use Rattle.word_reader.specs.Words.{Asked, Builds, Traces, Runs, Merges, Shows, Sessions, Demos}
+use Rattle.word_reader.specs.Words.{Asked, Builds, Traces, Runs, Merges, Shows, Sessions, Demos, first_name}
 use Rattle.top_build.specs.BuildPlan.{build_plan}
 use Rattle.top_build.specs.BuildMeaning.{MeansBuild}
 use Rattle.top_run.specs.RunPlan.{run_plan}
@@ -17,7 +17,7 @@ use Rattle.top_graph.specs.MergePlan.{merge_plan}
 use Rattle.top_graph.specs.MergeMeaning.{MeansMerge}
 use Rattle.top_graph.specs.ShowPlan.{show_plan}
 use Rattle.top_graph.specs.ShowMeaning.{MeansShow}
-use Rattle.binrec.specs.Words.{asked_by, first_name}
+use Rattle.binrec.specs.Words.{asked_by}
 use Rattle.binrec.specs.Commands.{plan_of, planned, plan}
 use Rattle.binrec.specs.Meaning.{MeansUsage}
 use Rattle.binrec.proofs.UsageMeant.{NeverOne, means_usage}

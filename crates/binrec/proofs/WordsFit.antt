@@ -6,7 +6,7 @@ use Rattle.std.specs.Str.{bytes_eq}
 use Rattle.std.specs.Int.Digits.{number_from_digits_after}
 use Rattle.run_model.specs.Opening.{FitArguments, texts, arguments}
 use Rattle.word_reader.specs.Numbers.{are_digits, is_digit, number_of_digits, number_in}
-use Rattle.word_reader.specs.Words.{Asked, Builds, Traces, Runs, Merges, Shows, Sessions, Demos, is_name, next_name, no_more, unless_wrong, or_wrong, first_no_argument, first_no_trace, traces_at, arguments_at, own_bytes, steps_behind, next_steps, build_words, trace_words, run_words, merge_words, show_words, session_words, demo_words, demo_count, command}
+use Rattle.word_reader.specs.Words.{Asked, Builds, Traces, Runs, Merges, Shows, Sessions, Demos, is_name, next_name, no_more, unless_wrong, or_wrong, first_no_argument, first_no_trace, traces_at, arguments_at, own_bytes, steps_behind, next_steps, build_words, trace_words, run_words, merge_words, show_words, session_words, demo_words, demo_count, command, is_steps, first_name}
 use Rattle.binrec.specs.Words.{Fits, IsFitting, words_taken, within, asked_by}
 
 -- ---- tests
@@ -192,3 +192,15 @@ pub fit_asked : (words : List (List ℕ)) (asked : Asked) → asked_by words ≡
 unfolding Fit
 fit_asked [] asked is = absurd (let z : (let x : Result Asked ℕ = Err 0 in x) ≡ Ok asked = is in cc)
 fit_asked (word ∷ words) asked is = let P : Fit (Ok asked) = subst Fit (read_as (words_taken word) (length words + 1) (command (word ∷ words)) asked is) (fit_command (word ∷ words)) in P
+
+-- ---- positions
+
+by_steps : (b : Bool) → cond b 3 1 ≤ 3
+by_steps true = lit≤ tt
+by_steps false = lit≤ tt
+
+-- the first name stands at a small position
+pub first_few : (words : List (List ℕ)) → first_name words ≤ 3
+first_few [] = lit≤ tt
+first_few (word ∷ []) = lit≤ tt
+first_few (word ∷ second ∷ words) = by_steps (is_steps second)

@@ -1,13 +1,13 @@
 -- The commands, each as its plan.
 use Rattle.std.specs.Prelude.{ℕ, ◌+◌, List, Result, Ok, Err}
 use Rattle.top_plan.specs.Plan.{Plan}
-use Rattle.word_reader.specs.Words.{Asked, Builds, Traces, Runs, Merges, Shows, Sessions, Demos}
+use Rattle.word_reader.specs.Words.{Asked, Builds, Traces, Runs, Merges, Shows, Sessions, Demos, first_name}
 use Rattle.top_build.specs.BuildPlan.{build_plan}
 use Rattle.top_run.specs.RunPlan.{run_plan}
 use Rattle.top_run.specs.TracePlan.{trace_plan}
 use Rattle.top_graph.specs.MergePlan.{merge_plan}
 use Rattle.top_graph.specs.ShowPlan.{show_plan}
-use Rattle.binrec.specs.Words.{asked_by, first_name}
+use Rattle.binrec.specs.Words.{asked_by}
 
 -- by the command, and where its first name stands; of those that are not there yet the first word is wrong
 abbrev pub plan_of : Asked → ℕ → Result Plan ℕ

@@ -42,15 +42,6 @@ IsFitting (Merges target original names) = length names ≤ 4096
 IsFitting (Shows original names) = length names ≤ 4096
 IsFitting _ = Unit {0}
 
--- where the first name of `run` and `trace` stands, behind the number of steps where it is given
-abbrev pub behind_steps : List (List ℕ) → ℕ
-behind_steps [] = 1
-behind_steps (word ∷ words) = cond (bytes_eq word (codes "--steps")) 3 1
-
-abbrev pub first_name : List (List ℕ) → ℕ
-first_name [] = 1
-first_name (word ∷ words) = behind_steps words
-
 -- the position of the first wrong word, where one that is wrong stands behind the words that were read
 abbrev pub wrong_or_next : ℕ → Result Asked ℕ → ℕ
 wrong_or_next next (Ok asked) = next

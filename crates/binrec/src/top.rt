@@ -8,25 +8,25 @@ ghost use Rattle.top_plan.specs.Happened.{TellsLine, Answered};
 ghost use Rattle.top_plan.specs.Expected.{IsExact, IsComplete, HasCause};
 ghost use Rattle.top_plan.specs.Partial.{IsPartial};
 ghost use Rattle.top_plan.specs.Steady.{IsSteady};
-ghost use Rattle.word_reader.specs.Words.{Builds, Traces, Runs, Merges, Shows};
+ghost use Rattle.word_reader.specs.Words.{Builds, Traces, Runs, Merges, Shows, first_name};
 ghost use Rattle.word_reader.specs.Reads.{asked_of};
 ghost use Rattle.top_build.specs.BuildMeaning.{MeansBuild};
 ghost use Rattle.top_run.specs.RunMeaning.{MeansRun};
 ghost use Rattle.top_run.specs.TraceMeaning.{MeansTrace};
 ghost use Rattle.top_graph.specs.MergeMeaning.{MeansMerge};
 ghost use Rattle.top_graph.specs.ShowMeaning.{MeansShow};
-ghost use Rattle.binrec.specs.Words.{IsFitting, asked_by, first_name};
+ghost use Rattle.binrec.specs.Words.{IsFitting, asked_by};
 ghost use Rattle.binrec.specs.Commands.{plan_of, plan};
 ghost use Rattle.binrec.specs.Meaning.{MeansUsage};
 
-use crate::words::{first_name, read_command};
+use crate::words::read_command;
 use br_outside::{Shelf, Sink, Source};
 use std::alloc::Global;
 use top_build::{build_command, build_law};
 use top_graph::{merge_command, merge_law, show_command, show_law};
 use top_plan::{Halt, Outcome, plan_law, tell_halt, tell_outcome, tell_usage};
 use top_run::{run_command, run_law, trace_command, trace_law};
-use word_reader::Command;
+use word_reader::{Command, first_name};
 
 /// The status of a command, with which the program ends.
 #[derive(Clone, Copy, Debug, PartialEq, Eq)]

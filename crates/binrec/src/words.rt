@@ -1,7 +1,7 @@
 //! The commands that there are so far.
 ghost use Rattle.std.specs.Prelude.{◌≡◌, IfOk, map, string_bytes};
 ghost use Rattle.word_reader.specs.Reads.{asked_of};
-ghost use Rattle.binrec.specs.Words.{Reads, IsFitting, words_taken, asked_by, first_name};
+ghost use Rattle.binrec.specs.Words.{Reads, IsFitting, words_taken, asked_by};
 
 use word_reader::{Command, read_words};
 
@@ -44,14 +44,4 @@ pub fn read_command(words: &[String]) -> Result<Command<'_>, u32>
         }
         Err(usage) => Err(usage.at.min(taken)),
     }
-}
-
-/// The position of the first name of `run` and `trace`, behind the number of steps where it is given.
-pub fn first_name(words: &[String]) -> u32
-    ensures { result ≡ first_name (map string_bytes words.now) }
-{
-    let [_, second, ..] = words else {
-        return 1;
-    };
-    if second.as_str() == "--steps" { 3 } else { 1 }
 }
