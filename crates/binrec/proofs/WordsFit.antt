@@ -1,18 +1,13 @@
 -- What the words give a command: arguments that fit, a number of steps of at most 18 digits, and at most 4096 traces.
-use Rattle.std.proofs.Common.{◌≡◌, ◌<◌, ◌≤◌, ◌+◌, ◌-◌, ◌*◌, ◌^◌, ◌&&◌, ◌||◌, if◌then◌else◌, nat_le, nat_lt, not, ℕ, suc, Bool, true, false, cond, List, [], ◌∷◌, ◌++◌, length, map, codes, Option, Some, None, Result, Ok, Err, refl, sym, ◌∙◌, ap, subst, arith, lit<, lit≤, length-append}
+use Rattle.std.proofs.Common.{◌≡◌, ◌<◌, ◌≤◌, ◌+◌, ◌-◌, ◌*◌, ◌^◌, ◌&&◌, ◌||◌, if◌then◌else◌, nat_le, nat_lt, not, ℕ, min, suc, Bool, true, false, cond, List, [], ◌∷◌, ◌++◌, length, map, codes, Option, Some, None, Result, Ok, Err, refl, sym, ◌∙◌, ap, subst, arith, lit<, lit≤, length-append}
 use Rattle.std.proofs.lemmas.Bool.{leb-true, leb-false, ltb-false}
 use Rattle.std.proofs.Math.Nat.{mul-le-mul_right, pow-succ', pow-le-pow_right, mul_assoc}
 use Rattle.std.specs.Str.{bytes_eq}
 use Rattle.std.specs.Int.Digits.{number_from_digits_after}
 use Rattle.run_model.specs.Opening.{FitArguments, texts, arguments}
 use Rattle.word_reader.specs.Numbers.{are_digits, is_digit, number_of_digits, number_in}
-use Rattle.word_reader.specs.Words.{Asked, Builds, Traces, Runs, Merges, Shows, Sessions, Demos, is_name, next_name, no_more, unless_wrong, or_wrong, first_no_argument, first_no_trace, traces_at, arguments_at, own_bytes, steps_behind, next_steps, build_words, trace_words, run_words, merge_words, show_words, session_words, demo_words, demo_count, command}
-use Rattle.binrec.specs.Words.{built_command, asked_by}
-
--- what a program is run with fits
-pub record Fits (steps : ℕ) (args : List (List ℕ)) : Type 0 where
-  pub fit : FitArguments args
-  pub few : steps ≤ 10 ^ 18
+use Rattle.word_reader.specs.Words.{Asked, Builds, Traces, Runs, Merges, Shows, Sessions, Demos, is_name, next_name, no_more, unless_wrong, or_wrong, first_no_argument, first_no_trace, traces_at, arguments_at, own_bytes, steps_behind, next_steps, build_words, trace_words, run_words, merge_words, show_words, session_words, demo_words, demo_count, command, is_steps, first_name}
+use Rattle.binrec.specs.Words.{Fits, IsFitting, words_taken, within, asked_by}
 
 -- ---- tests
 
@@ -86,11 +81,7 @@ few_traces k (word ∷ words) none few =
 
 -- what a command is given fits
 Fit : Result Asked ℕ → Type 0
-Fit (Ok (Traces steps t e args)) = Fits steps args
-Fit (Ok (Runs steps e args)) = Fits steps args
-Fit (Ok (Merges t e names)) = length names ≤ 4096
-Fit (Ok (Shows e names)) = length names ≤ 4096
-Fit (Ok _) = Unit {0}
+Fit (Ok asked) = IsFitting asked
 Fit (Err at) = Unit {0}
 
 abbrev Next : Type 0
@@ -187,33 +178,29 @@ fit_command (word ∷ words) =
     fit_cond (bytes_eq word (codes "demo")) (demo_words words) (Err 0) (fit_demo words) tt))))))
 
 -- what is asked for was read as that
-read_as : (r : Result Asked ℕ) (words : List (List ℕ)) (asked : Asked) → built_command r words ≡ Ok asked → r ≡ Ok asked
-read_as (Ok (Builds n e [])) words asked h = h
-read_as (Ok (Builds n e (t ∷ ts))) words asked h = absurd (let z : (let x : Result Asked ℕ = Err 3 in x) ≡ Ok asked = h in cc)
-read_as (Ok (Traces k t e ts)) words asked h = h
-read_as (Ok (Runs k e ts)) words asked h = h
-read_as (Ok (Merges t e ts)) words asked h = h
-read_as (Ok (Shows e ts)) words asked h = h
-read_as (Ok (Sessions e)) words asked h = absurd (let z : (let x : Result Asked ℕ = Err 0 in x) ≡ Ok asked = h in cc)
-read_as (Ok (Demos n)) words asked h = absurd (let z : (let x : Result Asked ℕ = Err 0 in x) ≡ Ok asked = h in cc)
-read_as (Err at) words asked h = absurd (cc)
+read_as : (taken : Option ℕ) (count : ℕ) (r : Result Asked ℕ) (asked : Asked) → within taken count r ≡ Ok asked → r ≡ Ok asked
+read_as None count r asked h = h
+read_as (Some taken) count (Ok read) asked h = by_count (nat_le count taken) h
+  where
+    by_count : (b : Bool) → (let r : Result Asked ℕ = cond b (Ok read) (Err taken) in r) ≡ Ok asked → (let r : Result Asked ℕ = Ok read in r) ≡ Ok asked
+    by_count true h = h
+    by_count false h = absurd (let z : (let x : Result Asked ℕ = Err taken in x) ≡ Ok asked = h in cc)
+read_as (Some taken) count (Err at) asked h = absurd (let z : (let x : Result Asked ℕ = Err (min at taken) in x) ≡ Ok asked = h in cc)
 
-fit_asked : (words : List (List ℕ)) (asked : Asked) → asked_by words ≡ Ok asked → Fit (Ok asked)
-fit_asked words asked is = subst Fit (read_as (command words) words asked is) (fit_command words)
-
--- what `run`, `trace`, `merge` and `show` are given
-pub asked_fits : (words : List (List ℕ)) (steps : ℕ) (e : List ℕ) (args : List (List ℕ)) → asked_by words ≡ Ok (Runs steps e args) → Fits steps args
+-- what a command of these words is given fits
+pub fit_asked : (words : List (List ℕ)) (asked : Asked) → asked_by words ≡ Ok asked → IsFitting asked
 unfolding Fit
-asked_fits words steps e args is = fit_asked words (Runs steps e args) is
+fit_asked [] asked is = absurd (let z : (let x : Result Asked ℕ = Err 0 in x) ≡ Ok asked = is in cc)
+fit_asked (word ∷ words) asked is = let P : Fit (Ok asked) = subst Fit (read_as (words_taken word) (length words + 1) (command (word ∷ words)) asked is) (fit_command (word ∷ words)) in P
 
-pub trace_fits : (words : List (List ℕ)) (steps : ℕ) (t e : List ℕ) (args : List (List ℕ)) → asked_by words ≡ Ok (Traces steps t e args) → Fits steps args
-unfolding Fit
-trace_fits words steps t e args is = fit_asked words (Traces steps t e args) is
+-- ---- positions
 
-pub merge_fits : (words : List (List ℕ)) (t e : List ℕ) (names : List (List ℕ)) → asked_by words ≡ Ok (Merges t e names) → length names ≤ 4096
-unfolding Fit
-merge_fits words t e names is = fit_asked words (Merges t e names) is
+by_steps : (b : Bool) → cond b 3 1 ≤ 3
+by_steps true = lit≤ tt
+by_steps false = lit≤ tt
 
-pub show_fits : (words : List (List ℕ)) (e : List ℕ) (names : List (List ℕ)) → asked_by words ≡ Ok (Shows e names) → length names ≤ 4096
-unfolding Fit
-show_fits words e names is = fit_asked words (Shows e names) is
+-- the first name stands at a small position
+pub first_few : (words : List (List ℕ)) → first_name words ≤ 3
+first_few [] = lit≤ tt
+first_few (word ∷ []) = lit≤ tt
+first_few (word ∷ second ∷ words) = by_steps (is_steps second)

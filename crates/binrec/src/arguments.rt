@@ -1,17 +1,15 @@
 //! The words of the command line, as the system holds them.
-ghost use Rattle.std.specs.Prelude.{◌<◌, ◌^◌, IfOk, length, map, string_bytes};
+ghost use Rattle.std.specs.Prelude.{◌<◌, ◌^◌, Some, IfOk, length, map, string_bytes};
 ghost use Rattle.binrec.specs.Words.{wrong_in};
-ghost use Rattle.top_plan.specs.Happened.{TellsHalt};
-ghost use Rattle.top_plan.specs.declared.ends.Halt.TheVariants.{Because};
-ghost use Rattle.top_plan.specs.declared.ends.Cause.TheVariants.{Usage};
+ghost use Rattle.top_plan.specs.Texts.{usage_text};
+ghost use Rattle.top_plan.specs.Happened.{TellsLine};
 
 use crate::top::Status;
 use crate::words::read_command;
 use br_outside::Sink;
 use std::alloc::{AllocError, Global};
 use std::env::{Env, FillError};
-use top_plan::ends::{Cause, Halt};
-use top_plan::report::tell_halt;
+use top_plan::tell_usage;
 
 /// The words behind the program's name.
 #[derive(Debug, Drop)]
@@ -65,14 +63,14 @@ pub fn read_arguments<E: Env>(alloc: Global, env: &E) -> Result<Arguments, Alloc
 
 /// Reports that words are no command, since one that is not UTF-8 stands behind them, and answers the status. The line
 /// has the position of the first of them that is wrong, or else of that one.
-pub fn tell_broken<R: Sink>(alloc: Global, report: &mut R, words: &[String]) -> Status
+pub fn tell_broken<R: Sink>(report: &mut R, words: &[String]) -> Status
     requires { length words.now < 2 ^ 32 }
-    ensures { TellsHalt (Because (Usage (wrong_in (map string_bytes words.now)))) (R.seen report.old) result.0 (R.seen report.new) }
+    ensures { TellsLine (Some (usage_text (wrong_in (map string_bytes words.now)))) 1 (R.seen report.old) result.0 (R.seen report.new) }
 {
     let behind = words.len() as u32;
     let at = match read_command(words) {
         Ok(_) => behind,
         Err(at) => at.min(behind),
     };
-    Status(tell_halt(alloc, report, Halt::Because(Cause::Usage(at))))
+    Status(tell_usage(report, at))
 }

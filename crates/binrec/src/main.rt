@@ -6,7 +6,6 @@
 #![tactic(auto)]
 
 mod arguments;
-mod commands;
 #[cfg(test)]
 mod tests;
 mod top;
@@ -16,7 +15,7 @@ use arguments::{read_arguments, tell_broken};
 use br_real::{ErrorSink, FileShelf, InputSource, OutputSink};
 use std::process::ExitCode;
 use top::binrec;
-use top_plan::report::tell;
+use top_plan::tell;
 
 /// Does what the words ask for over real files and the standard streams, and ends with the status.
 ///
@@ -29,7 +28,7 @@ fn main(rt: HostRuntime) -> ExitCode {
         return ExitCode::from(tell(&mut report, b"memory\n", 4));
     };
     if arguments.broken {
-        return ExitCode::from(tell_broken(alloc, &mut report, &arguments.texts).0);
+        return ExitCode::from(tell_broken(&mut report, &arguments.texts).0);
     }
     let mut shelf = FileShelf::new(alloc, &rt);
     let mut input = InputSource::new(rt.stdin());

@@ -16,7 +16,7 @@ use Rattle.top_plan.specs.Happened.{TellsLine, Reported, Happened}
 use Rattle.top_build.specs.BuildPlan.{image_part, built_line, build_plan}
 use Rattle.top_plan.specs.Outcomes.{done_with}
 use Rattle.top_files.specs.Answers.{Says, Unstored, OnlyUnder}
-use Rattle.top_build.specs.BuildMeaning.{IsStored, Stores, build_status, read_status, MeansBuild}
+use Rattle.top_build.specs.BuildMeaning.{IsStored, Stores, Holds, build_status, read_status, MeansBuild}
 use Rattle.top_plan.specs.declared.ends.Halt.TheVariants.{Memory}
 use Rattle.top_plan.specs.declared.ends.Cause.TheVariants.{RefusedWord, Limited}
 use Rattle.top_plan.specs.declared.ends.Object.TheVariants as objects
@@ -25,7 +25,7 @@ use Rattle.top_files.specs.OriginalPart.{of_word}
 use Rattle.top_plan.proofs.Followed.{told_to}
 use Rattle.top_plan.proofs.Telling.{HowTold, Taken, Refused, Lacked, how_told}
 use Rattle.top_files.proofs.PartTurns.{checked_quiet}
-use Rattle.top_build.proofs.Courses.{Course, Wants, Misses, Passes, Refuses, Breaks, Keeps, CourseTo, Holds, course}
+use Rattle.top_build.proofs.Courses.{Course, Wants, Misses, Passes, Refuses, Breaks, Keeps, CourseTo, course}
 
 -- the report line of an end
 abbrev pub Line : WorkEnd → StreamView → ℕ → StreamView → Type 0

@@ -14,6 +14,7 @@ use Rattle.top_plan.specs.Texts.{WorkEnd}
 use Rattle.top_plan.specs.Plan.{Went}
 use Rattle.top_plan.specs.Parts.{checked}
 use Rattle.top_files.specs.OriginalPart.{of_word}
+use Rattle.top_build.specs.BuildMeaning.{Holds}
 use Rattle.top_build.specs.BuildPlan.{image_part, build_plan, built_line}
 use Rattle.top_plan.specs.Outcomes.{done_with}
 use Rattle.top_plan.proofs.Kept.{rises}
@@ -21,10 +22,6 @@ use Rattle.top_plan.specs.declared.ends.Halt.TheVariants.{Because, Outside, Memo
 use Rattle.top_plan.specs.declared.ends.Cause.TheVariants.{RefusedWord, Limited}
 use Rattle.top_plan.specs.declared.ends.Object.TheVariants as objects
 use Rattle.top_plan.specs.declared.ends.Limit.TheVariants as limits
-
--- the content of a name has this, where the files are told
-abbrev pub Holds : List ℕ → (List ℕ → Type 0) → Option Files → Type 0
-Holds name P told = IfSome told (λ files. (content : List ℕ) × (files name ≡ Some content) × P content)
 
 -- what was done to the shelf by the work of `build N E`, and how it ended
 pub data Course (name original : List ℕ) (old : ShelfView) (o : WorkEnd) (new : ShelfView) : Type 0 where

@@ -6,11 +6,13 @@ use Rattle.build_core.specs.Image.{image}
 use Rattle.top_plan.specs.Plan.{Plan, Ends, Stores}
 use Rattle.top_files.specs.OriginalPart.{original_part}
 use Rattle.top_plan.specs.Outcomes.{done_with}
-use Rattle.binrec.specs.Words.{built}
 
+-- the report line, with the numbers of blocks and of bytes of code, and the length of the file
 abbrev pub built_line : ℕ → ℕ → ℕ → List ℕ
-built_line blocks code length = codes "built " ++ (decimal blocks ++ (codes " " ++ (decimal code ++ (codes " " ++ (decimal length ++ codes "\n")))))
+built_line blocks code length =
+    codes "built " ++ (decimal blocks ++ (codes " " ++ (decimal code ++ (codes " " ++ (decimal length ++ codes "\n")))))
 
+-- the image of an original is stored
 abbrev pub image_part : List ℕ → Exe → Plan
 image_part name exe = Stores name (image exe) (Ends (Ok (done_with (built_line 0 5 (length (image exe))))))
 

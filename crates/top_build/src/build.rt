@@ -49,7 +49,8 @@ fn store_image<F: Shelf>(
     exe: &Exe,
 ) -> Result<Outcome, Halt>
     requires { IsOriginal exe.now }
-    ensures { (w : World) → Went (image_part name.now exe.now) (on_shelf w (F.seen shelf.old)) (end_of result) (on_shelf w (F.seen shelf.new)) }
+    ensures { (w : World) → Went (image_part name.now exe.now)
+        (on_shelf w (F.seen shelf.old)) (end_of result) (on_shelf w (F.seen shelf.new)) }
 {
     let built = image_of(alloc, exe)?;
     let line = line_of(alloc, &built)?;
@@ -70,7 +71,8 @@ pub fn build_command<F: Shelf>(
     name: &str,
     original: &str,
 ) -> Result<Outcome, Halt>
-    ensures { (w : World) → Went (build_plan name.now original.now) (on_shelf w (F.seen shelf.old)) (end_of result) (on_shelf w (F.seen shelf.new)) }
+    ensures { (w : World) → Went (build_plan name.now original.now)
+        (on_shelf w (F.seen shelf.old)) (end_of result) (on_shelf w (F.seen shelf.new)) }
 {
     let exe = fetch_original(alloc, shelf, original, 2)?;
     store_image(alloc, shelf, name, &exe)

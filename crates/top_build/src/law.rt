@@ -11,7 +11,8 @@ use build_core::image_law;
 /// The plan of `build` is orderly, and what is answered after a run of it means what it is to mean.
 pub fn build_law()
     ensures orderly { (name original : List ℕ) → IsOrderly (build_plan name original) }
-    ensures means { (name original : List ℕ) (s : World) (result : ℕ) (t : World) → Happened (build_plan name original) s result t → MeansBuild name original s result t }
+    ensures means { (name original : List ℕ) (s : World) (result : ℕ) (t : World)
+        → Happened (build_plan name original) s result t → MeansBuild name original s result t }
 {
     image_law();
 }

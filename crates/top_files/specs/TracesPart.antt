@@ -21,12 +21,15 @@ counted before (Err cause) = Err cause
 
 -- a trace of the original with this digest is fetched, read and counted
 abbrev pub trace_part : List ℕ → List ℕ → ℕ → ℕ → (List Edge → Plan) → Plan
-trace_part digest name word before next = Fetches name 16777216 (λ bytes. checked (counted before (edges_of_word word (trace bytes digest))) next)
+trace_part digest name word before next =
+    Fetches name 16777216 (λ bytes. checked (counted before (edges_of_word word (trace bytes digest))) next)
 
 -- the traces of names, one after another; their words begin at a position
 unfoldable pub traces_part : List ℕ → List (List ℕ) → ℕ → ℕ → (List (List Edge) → Plan) → Plan
 traces_part digest [] word before next = next []
-traces_part digest (name ∷ names) word before next = trace_part digest name word before (λ es. traces_part digest names (word + 1) (before + length es) (λ rest. next (es ∷ rest)))
+traces_part digest (name ∷ names) word before next =
+    trace_part digest name word before (λ es.
+    traces_part digest names (word + 1) (before + length es) (λ rest. next (es ∷ rest)))
 
 -- the union of traces, unless it is too large for one
 abbrev pub limited : List Edge → Result (List Edge) Cause

@@ -53,7 +53,8 @@ pub fn fetch_original<F: Shelf>(
     name: &str,
     word: u32,
 ) -> Result<Exe, Halt>
-    ensures goes { (w : World) → Goes (λ exe. exe) (original_part name.now word) (on_shelf w (F.seen shelf.old)) result (on_shelf w (F.seen shelf.new)) }
+    ensures goes { (w : World) → Goes (λ exe. exe) (original_part name.now word)
+        (on_shelf w (F.seen shelf.old)) result (on_shelf w (F.seen shelf.new)) }
     ensures original { IfOk result IsOriginal }
 {
     let bytes = fetch_file(alloc, shelf, name, FILE_LIMIT)?;
@@ -83,7 +84,8 @@ pub fn fetch_subject<F: Shelf>(
     name: &str,
     word: u32,
 ) -> Result<Subject, Halt>
-    ensures goes { (w : World) → Goes (λ subject. subject) (subject_part name.now word) (on_shelf w (F.seen shelf.old)) result (on_shelf w (F.seen shelf.new)) }
+    ensures goes { (w : World) → Goes (λ subject. subject) (subject_part name.now word)
+        (on_shelf w (F.seen shelf.old)) result (on_shelf w (F.seen shelf.new)) }
     ensures original { IfOk result (λ subject. IsOriginal subject.exe) }
 {
     let bytes = fetch_file(alloc, shelf, name, FILE_LIMIT)?;

@@ -82,7 +82,8 @@ fn fetch_trace<F: Shelf>(
     before: u32,
 ) -> Result<Edges, Halt>
     requires { before ≤ EDGE_LIMIT }
-    ensures goes { (w : World) → Goes (λ es. es) (trace_part digest.now name.now word before) (on_shelf w (F.seen shelf.old)) result (on_shelf w (F.seen shelf.new)) }
+    ensures goes { (w : World) → Goes (λ es. es) (trace_part digest.now name.now word before)
+        (on_shelf w (F.seen shelf.old)) result (on_shelf w (F.seen shelf.new)) }
     ensures count { IfOk result (λ es. before + length es ≤ EDGE_LIMIT) }
 {
     let bytes = fetch_file(alloc, shelf, name, FILE_LIMIT)?;
@@ -100,7 +101,8 @@ pub fn fetch_traces<F: Shelf>(
     word: u32,
 ) -> Result<Vec<Edges>, Halt>
     requires few { word + length names.now < 2 ^ 32 }
-    ensures goes { (w : World) → Goes (λ v. v.items) (traces_part digest.now (map string_bytes names.now) word 0) (on_shelf w (F.seen shelf.old)) result (on_shelf w (F.seen shelf.new)) }
+    ensures goes { (w : World) → Goes (λ v. v.items) (traces_part digest.now (map string_bytes names.now) word 0)
+        (on_shelf w (F.seen shelf.old)) result (on_shelf w (F.seen shelf.new)) }
     ensures count { IfOk result (λ v. pairs v.items ≤ EDGE_LIMIT) }
 {
     let mut traces = Vec::new(alloc);

@@ -10,7 +10,7 @@ use Rattle.top_plan.specs.Happened.{Happened}
 use Rattle.top_plan.specs.Expected.{expected, NoInput, IsExact}
 use Rattle.top_plan.specs.Outcomes.{done_with}
 use Rattle.top_graph.specs.MergePlan.{merged_line, store_part, union_part, merge_plan}
-use Rattle.top_graph.specs.MergeMeaning.{HasStored, MergesUnion, MeansMerge}
+use Rattle.top_graph.specs.MergeMeaning.{HasStored, MergesUnion, MergesSets, MeansMerge}
 use Rattle.top_plan.specs.declared.ends.Halt.TheVariants.{Because}
 use Rattle.top_plan.specs.declared.ends.Cause.{Cause}
 use Rattle.top_plan.specs.declared.ends.Cause.TheVariants.{Limited}
@@ -44,7 +44,7 @@ means_merge target original names s result t happened exact =
     record {
       told = λ files told.
           let h : IsQuiet files s t = record { told = told; input = ap (λ v. v.bytes) same } in
-          reading_means original names 2 (λ subject traces. union_part target subject.digest (union_of traces)) (λ exe digest sets. MergesUnion target digest (union_of sets) files s result t) files s result t h
+          reading_means original names 2 (λ subject traces. union_part target subject.digest (union_of traces)) (MergesSets target files s result t) files s result t h
           (λ subject traces w. union_means target subject.digest (union_of traces) files s result t h w) (exact files [] (record { shelf = inr told; input = inl quiet }));
       input = same;
     }

@@ -14,7 +14,7 @@ use Rattle.top_plan.specs.Happened.{Happened}
 use Rattle.top_plan.specs.Expected.{expected, NoInput, IsExact}
 use Rattle.top_graph.specs.ShowPlan.{listing, limited_graph, shown_line, listing_part, show_plan}
 use Rattle.top_plan.specs.Outcomes.{done_with}
-use Rattle.top_graph.specs.ShowMeaning.{HasPrinted, ShowsGraph, MeansShow}
+use Rattle.top_graph.specs.ShowMeaning.{HasPrinted, ShowsGraph, ShowsSets, MeansShow}
 use Rattle.top_plan.specs.declared.ends.Halt.TheVariants.{Because}
 use Rattle.top_plan.specs.declared.ends.Cause.{Cause}
 use Rattle.top_plan.specs.declared.ends.Cause.TheVariants.{Limited}
@@ -55,7 +55,7 @@ means_show original names s result t happened exact =
       told = λ files told.
           let h : IsQuiet files s t = record { told = told; input = ap (λ v. v.bytes) same } in
           reading_means original names 1 (λ subject traces. checked (limited_graph (graph_of subject.exe (union_of traces))) (listing_part subject.exe))
-          (λ exe digest sets. ShowsGraph exe (graph_of exe (union_of sets)) s result t) files s result t h
+          (ShowsSets s result t) files s result t h
           (λ subject traces w. graph_means subject.exe (graph_of subject.exe (union_of traces)) files s result t h w) (exact files [] (record { shelf = inr told; input = inl quiet }));
       input = same;
     }

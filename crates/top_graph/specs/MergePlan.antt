@@ -9,6 +9,7 @@ use Rattle.top_files.specs.OriginalPart.{subject_part}
 use Rattle.top_files.specs.TracesPart.{traces_part, limited}
 use Rattle.top_plan.specs.Outcomes.{done_with}
 
+-- the report line
 abbrev pub merged_line : ℕ → List ℕ
 merged_line edges = codes "merged " ++ (decimal edges ++ codes "\n")
 
@@ -16,8 +17,12 @@ merged_line edges = codes "merged " ++ (decimal edges ++ codes "\n")
 abbrev pub store_part : List ℕ → List ℕ → List Edge → Plan
 store_part target digest es = Stores target (trace_bytes es digest) (Ends (Ok (done_with (merged_line (length es)))))
 
+-- the union, unless it is too large
 abbrev pub union_part : List ℕ → List ℕ → List Edge → Plan
 union_part target digest es = checked (limited es) (store_part target digest)
 
+-- the original is read, and its traces; their union is stored
 abbrev pub merge_plan : List ℕ → List ℕ → List (List ℕ) → Plan
-merge_plan target original names = subject_part original 2 (λ subject. traces_part subject.digest names 3 0 (λ traces. union_part target subject.digest (union_of traces)))
+merge_plan target original names =
+    subject_part original 2 (λ subject. traces_part subject.digest names 3 0 (λ traces.
+    union_part target subject.digest (union_of traces)))

@@ -23,12 +23,16 @@ listing exe g = flat_map (λ b. listing_of exe b.start b.known) g
 abbrev pub limited_graph : List Node → Result (List Node) Cause
 limited_graph g = cond (nat_le (length g) 65536) (Ok g) (Err (Limited (limits.Blocks 65536)))
 
+-- the report line
 abbrev pub shown_line : ℕ → List ℕ
 shown_line blocks = codes "shown " ++ (decimal blocks ++ codes "\n")
 
+-- the listing of a graph is printed
 abbrev pub listing_part : Exe → List Node → Plan
 listing_part exe g = prints (listing exe g) (Ends (Ok (done_with (shown_line (length g)))))
 
 -- the graph of an original and the union of its traces is listed
 abbrev pub show_plan : List ℕ → List (List ℕ) → Plan
-show_plan original names = subject_part original 1 (λ subject. traces_part subject.digest names 2 0 (λ traces. checked (limited_graph (graph_of subject.exe (union_of traces))) (listing_part subject.exe)))
+show_plan original names =
+    subject_part original 1 (λ subject. traces_part subject.digest names 2 0 (λ traces.
+    checked (limited_graph (graph_of subject.exe (union_of traces))) (listing_part subject.exe)))

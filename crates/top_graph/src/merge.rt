@@ -50,7 +50,8 @@ fn store_union<F: Shelf>(
     digest: &[u8; 32],
 ) -> Result<Outcome, Halt>
     requires { length edges.now ≤ UNION_LIMIT }
-    ensures { (w : World) → Went (store_part target.now digest.now edges.now) (on_shelf w (F.seen shelf.old)) (end_of result) (on_shelf w (F.seen shelf.new)) }
+    ensures { (w : World) → Went (store_part target.now digest.now edges.now)
+        (on_shelf w (F.seen shelf.old)) (end_of result) (on_shelf w (F.seen shelf.new)) }
 {
     let line = line_of(alloc, edges.len())?;
     store_trace(alloc, shelf, target, edges, digest)?;
@@ -73,7 +74,8 @@ pub fn merge_command<F: Shelf>(
     names: &[String],
 ) -> Result<Outcome, Halt>
     requires { length names.now ≤ 4096 }
-    ensures { (w : World) → Went (merge_plan target.now original.now (map string_bytes names.now)) (on_shelf w (F.seen shelf.old)) (end_of result) (on_shelf w (F.seen shelf.new)) }
+    ensures { (w : World) → Went (merge_plan target.now original.now (map string_bytes names.now))
+        (on_shelf w (F.seen shelf.old)) (end_of result) (on_shelf w (F.seen shelf.new)) }
 {
     let subject = fetch_subject(alloc, shelf, original, 2)?;
     let traces = fetch_traces(alloc, shelf, &subject.digest, names, 3)?;

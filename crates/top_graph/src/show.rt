@@ -86,7 +86,8 @@ fn print_graph<O: Sink>(
 ) -> Result<Outcome, Halt>
     requires guest { IsGuest exe.now }
     requires code { AreCode exe.now graph.now }
-    ensures { (w : World) → Went (listing_part exe.now graph.now) (on_out w (O.seen out.old)) (end_of result) (on_out w (O.seen out.new)) }
+    ensures { (w : World) → Went (listing_part exe.now graph.now)
+        (on_out w (O.seen out.old)) (end_of result) (on_out w (O.seen out.new)) }
 {
     let text = listing_of(alloc, exe, graph)?;
     let line = line_of(alloc, graph.len())?;
@@ -111,7 +112,8 @@ pub fn show_command<F: Shelf, O: Sink>(
     names: &[String],
 ) -> Result<Outcome, Halt>
     requires { length names.now ≤ 4096 }
-    ensures { (i r : StreamView) → Went (show_plan original.now (map string_bytes names.now)) (world (F.seen shelf.old) i (O.seen out.old) r) (end_of result) (world (F.seen shelf.new) i (O.seen out.new) r) }
+    ensures { (i r : StreamView) → Went (show_plan original.now (map string_bytes names.now))
+        (world (F.seen shelf.old) i (O.seen out.old) r) (end_of result) (world (F.seen shelf.new) i (O.seen out.new) r) }
 {
     let subject = fetch_subject(alloc, shelf, original, 1)?;
     let traces = fetch_traces(alloc, shelf, &subject.digest, names, 2)?;

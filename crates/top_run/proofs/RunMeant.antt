@@ -17,9 +17,8 @@ use Rattle.top_plan.specs.Parts.{checked}
 use Rattle.top_plan.specs.Expected.{Store, Ending, ends_with, after_fetch, expected, LeavesBut, HasFailed, IsWhole, Decided, IsExact}
 use Rattle.top_run.specs.RunPlan.{last_line, guest_plan, finished, run_plan}
 use Rattle.top_files.specs.OriginalPart.{of_word}
-use Rattle.top_run.specs.RunMeaning.{HasRun, RunsRead, RunsContent, MeansRun}
+use Rattle.top_run.specs.RunMeaning.{HasShown, HasRun, RunsRead, RunsContent, MeansRun}
 use Rattle.top_files.specs.Answers.{OnlySays}
-use Rattle.top_run.specs.TraceMeaning.{HasShown}
 use Rattle.top_plan.specs.declared.ends.Halt.{Halt}
 use Rattle.top_plan.specs.declared.ends.Halt.TheVariants.{Because, Outside}
 use Rattle.top_plan.specs.declared.ends.Cause.TheVariants.{RefusedWord, Limited}
@@ -64,9 +63,7 @@ has_run n exe args files left s result t told has w =
     let undefined : 0 + undefined_taken n start ≡ undefined_taken n start = omega arith in
     record {
       status = w.status;
-      out = h.out;
-      report = h.report ∙ ap (λ l. option_map (λ written. written ++ (u.err ++ l)) s.report.bytes) (ap (λ m. last_line u.stop m (0 + undefined_taken n start)) steps ∙ ap (λ m. last_line u.stop (steps_taken n start) m) undefined);
-      input = h.input;
+      shown = record { out = h.out; input = h.input; report = h.report ∙ ap (λ l. option_map (λ written. written ++ (u.err ++ l)) s.report.bytes) (ap (λ m. last_line u.stop m (0 + undefined_taken n start)) steps ∙ ap (λ m. last_line u.stop (steps_taken n start) m) undefined) };
       shelf = w.shelf told ∙ sym told;
     }
 

@@ -22,7 +22,7 @@ use Rattle.top_plan.specs.Expected.{Ending, ends_with, after_fetch, expected, Ha
 use Rattle.top_run.specs.RunPlan.{finish_of}
 use Rattle.top_run.specs.TracePlan.{traced_line, traced_as, tour_plan, traced_part, trace_plan}
 use Rattle.top_files.specs.OriginalPart.{of_word, with_digest}
-use Rattle.top_run.specs.TraceMeaning.{line_after, HasTraced, HasFilled, TracesExe, TracesRead, TracesContent, MeansTrace}
+use Rattle.top_run.specs.TraceMeaning.{traced_after, HasTraced, HasFilled, TracesExe, TracesRead, TracesContent, MeansTrace}
 use Rattle.top_plan.specs.declared.ends.Halt.TheVariants.{Because, Outside}
 use Rattle.top_plan.specs.declared.ends.Cause.TheVariants.{RefusedWord, Limited}
 use Rattle.top_plan.specs.declared.ends.Object.{Object}
@@ -52,7 +52,7 @@ has_traced target digest n exe args files left s result t told has w =
     let es = edges_in exe start n in
     let made : Traced = record { edges = es; stop = answer_of u.stop; steps = 0 + steps_taken n start; undefined = 0 + undefined_taken n start } in
     let h = has_shown start.stop u (record { name = target; bytes = trace_bytes es digest } ∷ []) (Ok (traced_as made)) files (put target (Some (trace_bytes es digest)) files) left s result t has w in
-    let line : traced_line (stop_of made.stop) made.steps made.undefined (length es) ≡ line_after n exe start = line_as _ _ _ _ _ _ (length es) (same_stop u.stop) (omega arith) (omega arith) in
+    let line : traced_line (stop_of made.stop) made.steps made.undefined (length es) ≡ traced_after n exe start = line_as _ _ _ _ _ _ (length es) (same_stop u.stop) (omega arith) (omega arith) in
     record {
       status = w.status ∙ ap (λ x. finish_status (finish_of x)) (same_stop u.stop);
       stored = w.shelf told;

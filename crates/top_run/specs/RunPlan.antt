@@ -25,12 +25,12 @@ use Rattle.top_plan.specs.declared.ends.Halt.{Halt}
 use Rattle.guest_sys.specs.declared.answers.SysError.TheVariants as sys
 use Rattle.top_plan.specs.declared.ends.Finish.TheVariants as finishes
 use Rattle.top_plan.specs.declared.ends.Object.TheVariants as objects
-use Rattle.top_plan.specs.declared.ends.Halt as work
 
 -- how many steps were taken, how many of them read an undefined flag, and what stands behind
 abbrev pub counts_text : ℕ → ℕ → List ℕ → List ℕ
 counts_text steps undefined rest = codes " steps " ++ (decimal steps ++ (codes " undefined " ++ (decimal undefined ++ rest)))
 
+-- the word of a fault, and its address
 abbrev pub fault_kind : GuestFault → List ℕ
 fault_kind (Access at) = codes "access"
 fault_kind (Illegal at) = codes "illegal"
@@ -51,11 +51,13 @@ stand_text (Faulted fault) = codes "fault " ++ (fault_kind fault ++ (codes " " +
 abbrev pub last_line : RunState → ℕ → ℕ → List ℕ
 last_line stop steps undefined = stand_text stop ++ counts_text steps undefined (codes "\n")
 
+-- how the work of a guest that stands so is done
 abbrev pub finish_of : RunState → Finish
 finish_of Running = finishes.Budget
 finish_of (Exited status) = finishes.Done
 finish_of (Faulted fault) = finishes.Fault
 
+-- the end of the work, by how the guest stands and its counts
 abbrev pub finished : RunState → ℕ → ℕ → Finished
 finished stop steps undefined = record { finish = finish_of stop; line = Some (last_line stop steps undefined) }
 
@@ -67,6 +69,7 @@ turn s t = record { left = t.input; printed = t.out; reported = t.err; asked = a
 abbrev pub next_guest : GuestView → List ℕ → GuestView
 next_guest g left = stepped g (fed left g.state) 0 (step (fed left g.state) 0)
 
+-- the turn of that step
 abbrev pub next_turn : GuestView → List ℕ → Turned
 next_turn g left = turn (fed left g.state) (step (fed left g.state) 0)
 
@@ -79,20 +82,22 @@ unfoldable pub guest_plan : ℕ → GuestView → Plan
 guest_plan zero g = stands g
 guest_plan (suc n) g = while_running g.state.stop (Turns (next_turn g) (λ left. guest_plan n (next_guest g left))) (stands g)
 
-abbrev pub halt_of_error : SysError → work.Halt
+-- how the work ends where a step failed
+abbrev pub halt_of_error : SysError → Halt
 halt_of_error sys.Input = Outside objects.Input
 halt_of_error sys.Out = Outside objects.Output
 halt_of_error sys.Report = Outside objects.Report
 halt_of_error sys.Memory = Memory
 
--- The guest took turns: where this answers Ok the run goes on as the guest stands then, else it ends with the stop.
-abbrev pub TakesTurns : ℕ → GuestView → World → Result (Unit {0}) work.Halt → GuestView → World → Type 0
+-- The guest took turns: where this answers Ok the run goes on as the guest stands then, else it ends with the halt.
+abbrev pub TakesTurns : ℕ → GuestView → World → Result (Unit {0}) Halt → GuestView → World → Type 0
 TakesTurns n g s (Ok _) h t = (o : WorkEnd) (u : World) → Went (stands h) t o u → Went (guest_plan n g) s o u
-TakesTurns n g s (Err stop) h t = Went (guest_plan n g) s (Err stop) t
+TakesTurns n g s (Err halt) h t = Went (guest_plan n g) s (Err halt) t
 
 -- a guest is fetched and read
 abbrev pub guest_part : List ℕ → ℕ → (Exe → Plan) → Plan
 guest_part name word next = Fetches name 268435456 (λ bytes. checked (of_word word (elf Guest bytes)) next)
 
+-- a guest is read, and takes at most so many steps
 abbrev pub run_plan : ℕ → List ℕ → List (List ℕ) → ℕ → Plan
 run_plan steps name args word = guest_part name word (λ exe. guest_plan steps (beginning exe args))

@@ -18,14 +18,18 @@ use Rattle.top_plan.specs.declared.ends.Halt.{Halt}
 use Rattle.tracer.specs.declared.answers.TracingError.TheVariants as errors
 use Rattle.top_plan.specs.declared.ends.Limit.TheVariants as limits
 use Rattle.top_plan.specs.declared.ends.Object.TheVariants as objects
-use Rattle.top_plan.specs.declared.ends.Halt as work
 
 -- the last line of `run`, with the number of edges that were recorded
 abbrev pub traced_line : RunState → ℕ → ℕ → ℕ → List ℕ
-traced_line stop steps undefined edges = stand_text stop ++ counts_text steps undefined (codes " edges " ++ (decimal edges ++ codes "\n"))
+traced_line stop steps undefined edges =
+    stand_text stop ++ counts_text steps undefined (codes " edges " ++ (decimal edges ++ codes "\n"))
 
+-- the end of the work of a traced run
 abbrev pub traced_as : Traced → Finished
-traced_as t = record { finish = finish_of (stop_of t.stop); line = Some (traced_line (stop_of t.stop) t.steps t.undefined (length t.edges)) }
+traced_as t = record {
+  finish = finish_of (stop_of t.stop);
+  line = Some (traced_line (stop_of t.stop) t.steps t.undefined (length t.edges));
+}
 
 -- the guest has these edges, unless they are too many
 abbrev pub unless_full : (List Edge → Plan) → List Edge → Plan
@@ -38,7 +42,8 @@ tour_plan last (suc n) g es = while_running g.state.stop
     (Turns (next_turn g) (λ left. unless_full (tour_plan last n (next_guest g left)) (with_step (next_guest g left).edge es)))
     (last (traced g es))
 
-abbrev pub halt_of_tracing : TracingError → work.Halt
+-- how the work ends where a run was not traced to its end
+abbrev pub halt_of_tracing : TracingError → Halt
 halt_of_tracing errors.Input = Outside objects.Input
 halt_of_tracing errors.Out = Outside objects.Output
 halt_of_tracing errors.Report = Outside objects.Report
@@ -49,5 +54,7 @@ halt_of_tracing errors.Memory = Memory
 abbrev pub traced_part : List ℕ → List ℕ → Traced → Plan
 traced_part target digest t = Stores target (trace_bytes t.edges digest) (Ends (Ok (traced_as t)))
 
+-- an original is read, takes at most so many steps as a guest, and their edges are stored
 abbrev pub trace_plan : ℕ → List ℕ → List ℕ → List (List ℕ) → ℕ → Plan
-trace_plan steps target original args word = subject_part original word (λ subject. tour_plan (traced_part target subject.digest) steps (beginning subject.exe args) (entry_edge subject.exe ∷ []))
+trace_plan steps target original args word = subject_part original word (λ subject.
+    tour_plan (traced_part target subject.digest) steps (beginning subject.exe args) (entry_edge subject.exe ∷ []))

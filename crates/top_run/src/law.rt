@@ -21,7 +21,8 @@ pub fn run_law()
 
 /// The plan of `trace` is orderly, and what is answered after a run of it means what it is to mean.
 pub fn trace_law()
-    ensures orderly { (steps : ℕ) (target original : List ℕ) (args : List (List ℕ)) (word : ℕ) → IsOrderly (trace_plan steps target original args word) }
+    ensures orderly { (steps : ℕ) (target original : List ℕ) (args : List (List ℕ)) (word : ℕ)
+        → IsOrderly (trace_plan steps target original args word) }
     ensures means { (steps : ℕ) (target original : List ℕ) (args : List (List ℕ)) (word : ℕ) (s : World) (result : ℕ) (t : World)
         → Happened (trace_plan steps target original args word) s result t → MeansTrace steps target original args word s result t }
 {

@@ -41,7 +41,8 @@ fn guest_of(alloc: Global, bytes: Vec<u8>, word: u32) -> Result<Exe, Halt>
 
 /// The guest under a name, which this word is, fetched and read.
 fn fetch_guest<F: Shelf>(alloc: Global, shelf: &mut F, name: &str, word: u32) -> Result<Exe, Halt>
-    ensures goes { (w : World) → Goes (λ exe. exe) (guest_part name.now word) (on_shelf w (F.seen shelf.old)) result (on_shelf w (F.seen shelf.new)) }
+    ensures goes { (w : World) → Goes (λ exe. exe) (guest_part name.now word)
+        (on_shelf w (F.seen shelf.old)) result (on_shelf w (F.seen shelf.new)) }
     ensures guest { IfOk result IsGuest }
 {
     let bytes = fetch_file(alloc, shelf, name, FILE_LIMIT)?;
@@ -82,7 +83,9 @@ fn take_turns<I: Source, O: Sink, R: Sink>(
 ) -> Result<(), Halt>
     requires live { guest.old.live ≡ true }
     requires room { guest.old.steps + budget ≤ 10 ^ 18 }
-    ensures { (v : ShelfView) → TakesTurns budget guest.old (world v (I.seen input.old) (O.seen out.old) (R.seen report.old)) result guest.new (world v (I.seen input.new) (O.seen out.new) (R.seen report.new)) }
+    ensures { (v : ShelfView) → TakesTurns budget guest.old
+        (world v (I.seen input.old) (O.seen out.old) (R.seen report.old)) result
+        guest.new (world v (I.seen input.new) (O.seen out.new) (R.seen report.new)) }
 {
     for turn in 0..budget {
         match guest.step(0, input, out, report) {
@@ -121,7 +124,9 @@ fn run_guest<I: Source, O: Sink, R: Sink>(
     requires fit { FitArguments (map string_bytes args.now) }
     requires guest { IsGuest exe.now }
     requires few { steps ≤ 10 ^ 18 }
-    ensures { (v : ShelfView) → Went (guest_plan steps (beginning exe.now (map string_bytes args.now))) (world v (I.seen input.old) (O.seen out.old) (R.seen report.old)) (end_of result) (world v (I.seen input.new) (O.seen out.new) (R.seen report.new)) }
+    ensures { (v : ShelfView) → Went (guest_plan steps (beginning exe.now (map string_bytes args.now)))
+        (world v (I.seen input.old) (O.seen out.old) (R.seen report.old)) (end_of result)
+        (world v (I.seen input.new) (O.seen out.new) (R.seen report.new)) }
 {
     let mut guest = open_guest(alloc, exe, args)?;
     take_turns(&mut guest, steps, input, out, report)?;
@@ -143,7 +148,9 @@ pub fn run_command<F: Shelf, I: Source, O: Sink, R: Sink>(
 ) -> Result<Outcome, Halt>
     requires fit { FitArguments (map string_bytes args.now) }
     requires few { steps ≤ 10 ^ 18 }
-    ensures { Went (run_plan steps original.now (map string_bytes args.now) word) (world (F.seen shelf.old) (I.seen input.old) (O.seen out.old) (R.seen report.old)) (end_of result) (world (F.seen shelf.new) (I.seen input.new) (O.seen out.new) (R.seen report.new)) }
+    ensures { Went (run_plan steps original.now (map string_bytes args.now) word)
+        (world (F.seen shelf.old) (I.seen input.old) (O.seen out.old) (R.seen report.old)) (end_of result)
+        (world (F.seen shelf.new) (I.seen input.new) (O.seen out.new) (R.seen report.new)) }
 {
     let exe = fetch_guest(alloc, shelf, original, word)?;
     run_guest(alloc, &exe, args, steps, input, out, report)

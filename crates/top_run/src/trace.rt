@@ -45,8 +45,10 @@ fn trace_guest<I: Source, O: Sink, R: Sink>(
     requires fit { FitArguments (map string_bytes args.now) }
     requires guest { IsGuest exe.now }
     requires few { steps ≤ 10 ^ 18 }
-    ensures goes { (v : ShelfView) → Goes (λ t. t) (λ last. tour_plan last steps (beginning exe.now (map string_bytes args.now)) (entry_edge exe.now ∷ []))
-        (world v (I.seen input.old) (O.seen out.old) (R.seen report.old)) result (world v (I.seen input.new) (O.seen out.new) (R.seen report.new)) }
+    ensures goes { (v : ShelfView) → Goes (λ t. t)
+        (λ last. tour_plan last steps (beginning exe.now (map string_bytes args.now)) (entry_edge exe.now ∷ []))
+        (world v (I.seen input.old) (O.seen out.old) (R.seen report.old)) result
+        (world v (I.seen input.new) (O.seen out.new) (R.seen report.new)) }
     ensures few { IfOk result (λ t. length t.edges ≤ UNION_LIMIT) }
 {
     match trace(alloc, exe, args, steps, input, out, report) {
@@ -57,7 +59,8 @@ fn trace_guest<I: Source, O: Sink, R: Sink>(
 
 /// The report line of a traced run. The error is want of memory.
 fn line_of(alloc: Global, traced: &Traced) -> Result<String, Halt>
-    ensures { Checks string_bytes result (Ok (traced_line (stop_of traced.now.stop) traced.now.steps traced.now.undefined (length traced.now.edges))) }
+    ensures { Checks string_bytes result
+        (Ok (traced_line (stop_of traced.now.stop) traced.now.steps traced.now.undefined (length traced.now.edges))) }
 {
     let edges = traced.edges.len();
     match traced_line(alloc, traced.stop, traced.steps, traced.undefined, edges) {
@@ -77,7 +80,8 @@ fn store_traced<F: Shelf>(
     digest: &[u8; 32],
 ) -> Result<Outcome, Halt>
     requires { length traced.now.edges ≤ UNION_LIMIT }
-    ensures { (w : World) → Went (traced_part target.now digest.now traced.now) (on_shelf w (F.seen shelf.old)) (end_of result) (on_shelf w (F.seen shelf.new)) }
+    ensures { (w : World) → Went (traced_part target.now digest.now traced.now)
+        (on_shelf w (F.seen shelf.old)) (end_of result) (on_shelf w (F.seen shelf.new)) }
 {
     let line = line_of(alloc, traced)?;
     store_trace(alloc, shelf, target, &traced.edges, digest)?;
@@ -108,7 +112,9 @@ pub fn trace_command<F: Shelf, I: Source, O: Sink, R: Sink>(
 ) -> Result<Outcome, Halt>
     requires fit { FitArguments (map string_bytes args.now) }
     requires few { steps ≤ 10 ^ 18 }
-    ensures { Went (trace_plan steps target.now original.now (map string_bytes args.now) word) (world (F.seen shelf.old) (I.seen input.old) (O.seen out.old) (R.seen report.old)) (end_of result) (world (F.seen shelf.new) (I.seen input.new) (O.seen out.new) (R.seen report.new)) }
+    ensures { Went (trace_plan steps target.now original.now (map string_bytes args.now) word)
+        (world (F.seen shelf.old) (I.seen input.old) (O.seen out.old) (R.seen report.old)) (end_of result)
+        (world (F.seen shelf.new) (I.seen input.new) (O.seen out.new) (R.seen report.new)) }
 {
     let subject = fetch_subject(alloc, shelf, original, word)?;
     let traced = trace_guest(alloc, &subject.exe, args, steps, input, out, report)?;

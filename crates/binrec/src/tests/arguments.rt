@@ -61,7 +61,7 @@ fn refuses_words_that_are_no_text(rt: HostRuntime) -> Result<(), Fail> {
         let read = read_arguments(alloc, &Line { words })?;
         assert!(rt; read.broken);
         let mut report = MemSink::new(alloc, Vec::new(alloc));
-        let status = tell_broken(alloc, &mut report, &read.texts);
+        let status = tell_broken(&mut report, &read.texts);
         assert_eq!(rt; status.0, 1);
         assert_eq!(rt; report.written(), line.as_bytes());
     }

@@ -1,5 +1,5 @@
 use Rattle.top_run.specs.RunPlan.{stands}
-use Rattle.binrec.proofs.Plans.Runs.{runs_out}
+use Rattle.top_plan.proofs.Passes.{runs_out}
 use Rattle.top_run.proofs.GuestRuns.{stood}
 use Rattle.top_run.proofs.run.outcome_of.Goals as goal
 
