@@ -1,6 +1,6 @@
 -- A step from a sound state leads to a sound one with the same code.
 use Rattle.std.proofs.Common.{◌≡◌, ℕ, zero, suc, ◌+◌, ◌-◌, ◌%◌, ◌^◌, ◌<◌, Bool, true, false, ◌&&◌, List, ◌++◌, length, take, drop, map, get_or, set, All, Option, Some, None, refl, sym, ap, ◌∙◌, subst, arith}
-use Rattle.std.specs.Prelude.{nat_eq, nat_lt, nat_le, if◌then◌else◌}
+use Rattle.std.specs.Prelude.{nat_eq, nat_lt, nat_le, if◌then◌else◌, IsTrue}
 use Rattle.std.proofs.lemmas.Bool.Decides.{nat_tests}
 use Rattle.std.proofs.lemmas.Nat.{mod_below}
 use Rattle.std.proofs.lemmas.List.{length-take}
@@ -17,11 +17,10 @@ use Rattle.ia_inst.specs.Canonical.{valid_of}
 use Rattle.ia_inst.specs.Instructions.{decode_of}
 use Rattle.ia_inst.specs.System.{answers, buffer, filled, system, StepResult, On, Bad, or_bad}
 use Rattle.ia_inst.specs.Step.{Found, NoCode, NoInst, There, found_from, found_in, found, next_eip, act_of, result_of, result_at, step_result, settled, unless_stopped, step}
-use Rattle.ia_decode.proofs.Answered.{decode_valid}
 use Rattle.run_model.specs.Run.{AreBytes, first_choice, run}
 use Rattle.ia_inst.specs.Fits.{AreRegs, IsAddress, Fits, EachFits}
 use Rattle.run_model.specs.Sound.{HoldBytes, IsApart, IsSound, StaysSound, ActsKeep}
-use Rattle.run_model.proofs.KeptRegions.{IsRegion, together, their_bytes, their_code, each_below, word_bytes, first_bytes, last_bytes, Kept, kept_all, kept_on, bytes_read, load_small, written_bytes, written_kept, resized_kept}
+use Rattle.run_model.proofs.KeptRegions.{IsRegion, together, their_bytes, their_code, word_bytes, first_bytes, last_bytes, Kept, kept_all, kept_on, bytes_read, load_small, written_bytes, written_kept, resized_kept}
 
 -- ---- an act
 
@@ -88,7 +87,11 @@ module _ (fits : EachFits) where
       le-true : (v : ℕ) → v < 2 ^ 32 → nat_lt v 4294967296 ≡ true
       le-true v l = grind (arith, nat_tests)
 
-module _ (fits : EachFits) (s : State) (h : IsSound s) where
+-- what is read of bytes is valid
+abbrev pub ReadIsValid : Type 0
+ReadIsValid = (bs : List ℕ) (i : Inst) (n : ℕ) → All (λ b. b < 256) bs → decode_of bs ≡ Some (i, n) → IsTrue (valid_of i)
+
+module _ (fits : EachFits) (valid : ReadIsValid) (s : State) (h : IsSound s) where
   pub stays : (t : State) → AreRegs t.cpu.regs → t.eip < 2 ^ 32 → t.brk < 2 ^ 32 → AreBytes t.input → t.brk_start ≡ s.brk_start → Kept s.brk_start s.regions t.regions → StaysSound s t
   stays t regs eip brk input e k = record {
     sound = record { regs = regs; eip = eip; brk = brk; bytes = their_bytes s.brk_start t.regions k.regions; apart = subst (λ b. All (IsApart b) t.regions) (sym e) (their_code s.brk_start t.regions k.regions); input = input };
@@ -174,7 +177,7 @@ module _ (fits : EachFits) (s : State) (h : IsSound s) where
     where
       by_answer : (bs : List ℕ) (r : Option (Inst × ℕ)) → AreBytes bs → decode_of bs ≡ r → found_from r ≡ There i n → valid_of i ≡ true
       by_answer bs None l d e = cc
-      by_answer bs (Some x) l d e = let is : x.0 ≡ i = cc in subst (λ i. valid_of i ≡ true) is (decode_valid bs x (each_below 256 bs (omega arith) l) d)
+      by_answer bs (Some x) l d e = let is : x.0 ≡ i = cc in subst (λ i. valid_of i ≡ true) is (valid bs x.0 x.1 l d)
 
       by_bytes : (o : Option (List ℕ)) → bytes_at Runs a 1 s.regions ≡ o → found_in o ≡ There i n → valid_of i ≡ true
       by_bytes None f e = cc
@@ -201,9 +204,9 @@ module _ (fits : EachFits) (s : State) (h : IsSound s) where
       go (Faulted f) = stays s h.regs h.eip h.brk h.input refl same
 
 -- a whole run
-pub run_stays : EachFits → (n : ℕ) (s : State) (cs : List ℕ) → IsSound s → StaysSound s (run n s cs)
-run_stays fits zero s cs h = record { sound = h; code = λ a. refl }
-run_stays fits (suc n) s cs h =
-    let k = step_stays fits s h (first_choice cs) in
-    let l = run_stays fits n (step s (first_choice cs)) (drop 1 cs) k.sound in
+pub run_stays : EachFits → ReadIsValid → (n : ℕ) (s : State) (cs : List ℕ) → IsSound s → StaysSound s (run n s cs)
+run_stays fits valid zero s cs h = record { sound = h; code = λ a. refl }
+run_stays fits valid (suc n) s cs h =
+    let k = step_stays fits valid s h (first_choice cs) in
+    let l = run_stays fits valid n (step s (first_choice cs)) (drop 1 cs) k.sound in
     record { sound = l.sound; code = λ a. l.code a ∙ k.code a }

@@ -3,6 +3,7 @@
 ghost use Rattle.run_model.specs.Sound.{ActsKeep, KeepsSound, LoadsFit, OpensSoundly, RunsKeepSound, StoresBytes};
 ghost use Rattle.run_model.specs.Split.{EdgesSplit, RunsSplit, WellDefinedSplits};
 
+use ia_decode::read_is_valid;
 use ia_inst::each_fits;
 
 /// What is loaded from memory of bytes fits its size, and after a store memory holds bytes.
@@ -20,6 +21,7 @@ pub fn keeps_sound()
     ensures act { ActsKeep }
 {
     each_fits();
+    read_is_valid();
 }
 
 /// Every file of bytes begins soundly, with words and an input of bytes, also one that is refused.
