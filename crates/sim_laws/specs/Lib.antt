@@ -1,2 +1,3 @@
 pub mod Preserves
 pub mod Covers
+pub mod Wider

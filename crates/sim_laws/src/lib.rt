@@ -1,4 +1,6 @@
 //! Laws of runs of guests and of the files that stand for them.
 #![tactic(auto)]
 
-pub mod choices;
+mod choices;
+
+pub use choices::{choices_agree, runs_wider};
