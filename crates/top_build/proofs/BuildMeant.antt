@@ -23,7 +23,7 @@ use Rattle.top_plan.specs.declared.ends.Object.TheVariants as objects
 use Rattle.top_plan.specs.declared.ends.Limit.TheVariants as limits
 use Rattle.top_files.specs.OriginalPart.{of_word}
 use Rattle.top_plan.proofs.Followed.{told_to}
-use Rattle.top_plan.proofs.Telling.{HowTold, Taken, Refused, Lacked, how_told}
+use Rattle.top_plan.proofs.Telling.{HowTold, Taken, Refused as Failed, Lacked, how_told}
 use Rattle.top_files.proofs.PartTurns.{checked_quiet}
 use Rattle.top_build.proofs.Courses.{Course, Wants, Misses, Passes, Refuses, Breaks, Keeps, CourseTo, course}
 
@@ -41,7 +41,7 @@ said o old new result k line is not_3 not_4 = by_told (how_told (end_line o) (en
   where
     by_told : HowTold (end_line o) (end_status o) old result new → (end_status o ≡ k) × (new.bytes ≡ option_map (λ w. w ++ end_text o) old.bytes)
     by_told (Taken status grew same) = (sym status ∙ is, grew)
-    by_told (Refused status rose loud) = absurd (not_3 (sym is ∙ status))
+    by_told (Failed status rose loud) = absurd (not_3 (sym is ∙ status))
     by_told (Lacked status same) = absurd (not_4 (sym is ∙ status))
 
 -- an answer 3 is that of the end, and its line was given, or the report failed
@@ -51,7 +51,7 @@ said_3 o s v new result line is = by_told (how_told (end_line o) (end_status o) 
   where
     by_told : HowTold (end_line o) (end_status o) s.report result new → HasFailed objects.Report s (left_as s v new) ⊎ ((end_status o ≡ 3) × (new.bytes ≡ option_map (λ w. w ++ end_text o) s.report.bytes))
     by_told (Taken status grew same) = inr (sym status ∙ is, grew)
-    by_told (Refused status rose loud) = inl (record { rose = rose; loud = loud })
+    by_told (Failed status rose loud) = inl (record { rose = rose; loud = loud })
     by_told (Lacked status same) = absurd (let z : 4 ≡ 3 = sym status ∙ is in omega arith)
 
 line_is : (o x : WorkEnd) (a b : Option (List ℕ)) → b ≡ option_map (λ w. w ++ end_text o) a → o ≡ x → b ≡ option_map (λ w. w ++ end_text x) a
@@ -202,7 +202,7 @@ answers : (original : List ℕ) (s : World) (o : WorkEnd) (v : ShelfView) (r : S
 answers original s o v r result files (Taken status grew same) (inl m) = inl (status ∙ ap end_status m)
 answers original s o v r result files (Taken status grew same) (inr (inl failed)) = inr (inl failed)
 answers original s o v r result files (Taken status grew same) (inr (inr is)) = inr (inr (inr (status ∙ is)))
-answers original s o v r result files (Refused status rose loud) ends = inr (inr (inl (record { rose = rose; loud = loud })))
+answers original s o v r result files (Failed status rose loud) ends = inr (inr (inl (record { rose = rose; loud = loud })))
 answers original s o v r result files (Lacked status same) ends = inl status
 
 means_course : (name original : List ℕ) (o : WorkEnd) (s : World) (v : ShelfView) (r : StreamView) (result : ℕ) → Law → Course name original s.shelf o v → Line o s.report result r → MeansBuild name original s result (left_as s v r)
