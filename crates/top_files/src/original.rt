@@ -1,6 +1,6 @@
 //! Originals: the executables that are rebuilt and traced.
 ghost use Rattle.std.specs.Prelude.{◌≤◌, IfOk, length};
-ghost use Rattle.elf_read.specs.Elf.{elf, IsOriginal};
+ghost use Rattle.elf_read.specs.Elf.{elf, IsOriginal, IsGuest};
 ghost use Rattle.elf_read.specs.declared.exe.Reach.TheVariants.{Original};
 ghost use Rattle.top_plan.specs.World.{World, on_shelf};
 ghost use Rattle.top_plan.specs.Parts.{Goes, Checks};
@@ -65,7 +65,7 @@ pub fn fetch_original<F: Shelf>(
 fn subject_of(alloc: Global, bytes: &[u8], word: u32) -> Result<Subject, Halt>
     requires { length bytes.now ≤ FILE_LIMIT }
     ensures checks { Checks (λ subject. subject) result (with_digest bytes.now (of_word word (elf Original bytes.now))) }
-    ensures original { IfOk result (λ subject. IsOriginal subject.exe) }
+    ensures guest { IfOk result (λ subject. IsGuest subject.exe) }
 {
     let exe = original_of(alloc, bytes, word)?;
     Ok(Subject {
@@ -86,7 +86,7 @@ pub fn fetch_subject<F: Shelf>(
 ) -> Result<Subject, Halt>
     ensures goes { (w : World) → Goes (λ subject. subject) (subject_part name.now word)
         (on_shelf w (F.seen shelf.old)) result (on_shelf w (F.seen shelf.new)) }
-    ensures original { IfOk result (λ subject. IsOriginal subject.exe) }
+    ensures guest { IfOk result (λ subject. IsGuest subject.exe) }
 {
     let bytes = fetch_file(alloc, shelf, name, FILE_LIMIT)?;
     subject_of(alloc, bytes.as_slice(), word)
