@@ -7,13 +7,10 @@ ghost use Rattle.top_plan.specs.Parts.{Goes, Checks};
 ghost use Rattle.top_files.specs.OriginalPart.{of_word, original_part, with_digest, subject_part};
 
 use br_outside::Shelf;
-use elf_read::{ElfError, Exe, Reach, read_elf};
+use elf_read::{ElfError, Exe, ORIGINAL_FILE_LIMIT, Reach, read_elf};
 use std::alloc::Global;
 use top_plan::{Cause, Halt, fetch_file};
 use trace_file::digest;
-
-/// The most bytes of an original.
-const FILE_LIMIT: u32 = 16777216;
 
 /// An original whose runs are traced, and the digest of its file, which its traces carry.
 #[derive(Drop)]
@@ -29,7 +26,7 @@ pub struct Subject {
 /// The error is the refusal, with the position `word` of the word that names the file, or want of
 /// memory.
 fn original_of(alloc: Global, bytes: &[u8], word: u32) -> Result<Exe, Halt>
-    requires { length bytes.now ≤ FILE_LIMIT }
+    requires { length bytes.now ≤ ORIGINAL_FILE_LIMIT }
     ensures checks { Checks (λ exe. exe) result (of_word word (elf Original bytes.now)) }
     ensures original { IfOk result IsOriginal }
 {
@@ -57,13 +54,13 @@ pub fn fetch_original<F: Shelf>(
         (on_shelf w (F.seen shelf.old)) result (on_shelf w (F.seen shelf.new)) }
     ensures original { IfOk result IsOriginal }
 {
-    let bytes = fetch_file(alloc, shelf, name, FILE_LIMIT)?;
+    let bytes = fetch_file(alloc, shelf, name, ORIGINAL_FILE_LIMIT)?;
     original_of(alloc, bytes.as_slice(), word)
 }
 
 /// An original with the digest of its bytes. The error is as that of [`original_of`].
 fn subject_of(alloc: Global, bytes: &[u8], word: u32) -> Result<Subject, Halt>
-    requires { length bytes.now ≤ FILE_LIMIT }
+    requires { length bytes.now ≤ ORIGINAL_FILE_LIMIT }
     ensures checks { Checks (λ subject. subject) result (with_digest bytes.now (of_word word (elf Original bytes.now))) }
     ensures guest { IfOk result (λ subject. IsGuest subject.exe) }
 {
@@ -88,6 +85,6 @@ pub fn fetch_subject<F: Shelf>(
         (on_shelf w (F.seen shelf.old)) result (on_shelf w (F.seen shelf.new)) }
     ensures guest { IfOk result (λ subject. IsGuest subject.exe) }
 {
-    let bytes = fetch_file(alloc, shelf, name, FILE_LIMIT)?;
+    let bytes = fetch_file(alloc, shelf, name, ORIGINAL_FILE_LIMIT)?;
     subject_of(alloc, bytes.as_slice(), word)
 }
