@@ -5,7 +5,7 @@ use Rattle.std.specs.Int.{w32, from_le_bytes, to_le_bytes}
 use Rattle.std.proofs.lemmas.Nat.{from_le_bytes-to_le_bytes_4}
 use Rattle.br_word.specs.Memory.{Region, bytes_at, bytes_of, zeros}
 use Rattle.br_word.specs.State.{State, all_flags}
-use Rattle.br_word.proofs.Numbers.{length_zeros, length_bytes_of}
+use Rattle.br_word.proofs.BitLaws.{length_zeros, length_bytes_of}
 use Rattle.ia_inst.specs.Meaning.{meaning, wrap}
 use Rattle.ia_inst.specs.Reading.{byte_at, four_at}
 use Rattle.ia_inst.specs.Prefixes.{prefixes_at}
@@ -20,7 +20,7 @@ use Rattle.run_model.specs.Opening.{arguments, opening, opening_of, exe_or_none}
 use Rattle.run_model.specs.Run.{observed, observed_of, first_choice, run, WellDefined, IsWellDefinedRun}
 use Rattle.elf_write.specs.File.{file_of}
 use Rattle.sim_laws.specs.Preserves.{Preserves, ShowsAt}
-use Rattle.sim_laws.proofs.Widen.{AllLow, AllHigh, widen, IsHigh, run_more}
+use Rattle.sim_laws.specs.Wider.{AllLow, AllHigh, widen, IsHigh, RunsWider}
 use Rattle.build_core.specs.Image.{jump_code, code_segment, private_segment, image}
 
 -- the original with the two segments before its own, as the image is read as a guest
@@ -42,7 +42,7 @@ jump_there entry h =
 abbrev with_eip : ℕ → State → State
 with_eip eip s = record s { eip = eip }
 
-module _ (exe : Exe) (args : List (List ℕ)) (input : List ℕ) where
+module _ (wider : RunsWider) (exe : Exe) (args : List (List ℕ)) (input : List ℕ) where
   first_act : (c : ℕ) → step (opening (with_jump exe) args input) c ≡ widen (extra_regions exe.entry) (all_flags false) (with_eip (wrap (0x01000000 + 5 + from_le_bytes w32 (to_le_bytes w32 (distance exe.entry)))) (opening exe args input))
   unfolding step bytes_at bytes_of decode_of inst_at prefixes_at behind_at byte_at opcode_at simple_at four_at meaning zeros
   first_act c = refl
@@ -52,7 +52,7 @@ module _ (exe : Exe) (args : List (List ℕ)) (input : List ℕ) where
 
   runs_on : (n : ℕ) (cs : List ℕ) → exe.entry < 2 ^ 32 → AllLow 0x08000000 (extra_regions exe.entry) → IsHigh 0x08000000 (opening exe args input) → WellDefined n (opening exe args input) → observed (run (suc n) (opening (with_jump exe) args input) cs) ≡ observed (run n (opening exe args input) [])
   runs_on n cs h x high t =
-      let f = run_more 0x08000000 (extra_regions exe.entry) x n (opening exe args input) (all_flags false) (drop 1 cs) high (record { cf = λ _. refl; pf = λ _. refl; zf = λ _. refl; sf = λ _. refl; of = λ _. refl }) t in
+      let f = wider 0x08000000 (extra_regions exe.entry) n (opening exe args input) (all_flags false) (drop 1 cs) x high (record { cf = λ _. refl; pf = λ _. refl; zf = λ _. refl; sf = λ _. refl; of = λ _. refl }) t in
       ap (λ s. observed (run n s (drop 1 cs))) (first_step h (first_choice cs)) ∙ ap observed f.same
 
 well_defined_less : (n k : ℕ) (s : State) → k ≤ n → WellDefined n s → WellDefined k s
@@ -89,7 +89,7 @@ opening_high exe args input h = record {
   brk = h.brk;
 }
 
-module _ (e : List ℕ) (exe : Exe) (ok : elf Guest e ≡ Ok exe) (built : elf Guest (image exe) ≡ Ok (with_jump exe)) (h : IsAbove exe) (words : List (List ℕ)) (input cs : List ℕ) where
+module _ (wider : RunsWider) (e : List ℕ) (exe : Exe) (ok : elf Guest e ≡ Ok exe) (built : elf Guest (image exe) ≡ Ok (with_jump exe)) (h : IsAbove exe) (words : List (List ℕ)) (input cs : List ℕ) where
   opens : opening_of e words input ≡ opening exe (arguments words) input
   opens = ap (λ r. opening (exe_or_none r) (arguments words) input) ok
 
@@ -102,7 +102,7 @@ module _ (e : List ℕ) (exe : Exe) (ok : elf Guest e ≡ Ok exe) (built : elf G
   moment_suc : (k : ℕ) → IsWellDefinedRun e words input k → observed_of (image exe) words input cs (suc k) ≡ observed_of e words input [] k
   moment_suc k t =
       ap (λ s. observed (run (suc k) s cs)) built_opens
-      ∙ runs_on exe (arguments words) input k cs h.entry (extra_low exe.entry) (opening_high exe (arguments words) input h) (subst (WellDefined k) opens t)
+      ∙ runs_on wider exe (arguments words) input k cs h.entry (extra_low exe.entry) (opening_high exe (arguments words) input h) (subst (WellDefined k) opens t)
       ∙ sym (ap (λ s. observed (run k s [])) opens)
 
   any_moment : (k m1 : ℕ) → IsWellDefinedRun e words input k → m1 ≤ suc k → (k1 : ℕ) × (k1 ≤ k) × (observed_of (image exe) words input cs m1 ≡ observed_of e words input [] k1)
@@ -116,16 +116,16 @@ image_not_empty : (exe : Exe) → 0 < length (image exe)
 unfolding file_of
 image_not_empty exe = omega arith
 
-pub preserved : (e : List ℕ) (exe : Exe) → elf Guest e ≡ Ok exe → elf Guest (image exe) ≡ Ok (with_jump exe) → IsAbove exe → Preserves e (image exe)
-preserved e exe ok built h = record {
+pub preserved : RunsWider → (e : List ℕ) (exe : Exe) → elf Guest e ≡ Ok exe → elf Guest (image exe) ≡ Ok (with_jump exe) → IsAbove exe → Preserves e (image exe)
+preserved wider e exe ok built h = record {
   accepted = (with_jump exe, built);
   forward = λ words input cs _ _ _ k t. record {
     steps = suc k;
     bound = bound k;
-    same = moment_suc e exe ok built h words input cs k t;
-    before = λ m1 l. any_moment e exe ok built h words input cs k m1 t l;
+    same = moment_suc wider e exe ok built h words input cs k t;
+    before = λ m1 l. any_moment wider e exe ok built h words input cs k m1 t l;
   };
-  backward = λ words input cs _ _ _ m t. shows e exe ok built h words input cs m t;
+  backward = λ words input cs _ _ _ m t. shows wider e exe ok built h words input cs m t;
 }
   where
     bound : (k : ℕ) → suc k ≤ length (image exe) * (k + 1)

@@ -1,17 +1,18 @@
--- Each original that is accepted, and its file.
+-- Each original that is accepted: its file can be written, and does what it does.
 use Rattle.std.proofs.Common.{◌≡◌, ℕ, suc, ◌+◌, ◌-◌, ◌%◌, ◌^◌, ◌≤◌, true, List, [], ◌∷◌, length, refl, sym, ap, ◌∙◌, subst, arith, lit<, lit≤}
 use Rattle.std.specs.Prelude.{Ok}
-use Rattle.br_word.proofs.Numbers.{length_bytes_of}
+use Rattle.br_word.proofs.BitLaws.{length_bytes_of}
 use Rattle.elf_read.specs.declared.exe.Segment.{Segment}
 use Rattle.elf_read.specs.declared.exe.Exe.{Exe}
-use Rattle.elf_read.specs.declared.exe.Reach.TheVariants.{Original}
+use Rattle.elf_read.specs.declared.exe.Reach.TheVariants.{Original, Guest}
 use Rattle.elf_read.specs.Elf.{IsOriginal, AreSegments, is_exec, end_of_last, round_up, exe_of, elf}
 use Rattle.elf_read.proofs.Accepted.{last_high, lower, ascend_from, entry_bound, accepted}
 use Rattle.elf_write.specs.File.{IsWritable}
 use Rattle.elf_write.proofs.ReadBack.{read_back}
 use Rattle.sim_laws.specs.Preserves.{Preserves}
+use Rattle.sim_laws.specs.Wider.{RunsWider}
 use Rattle.build_core.specs.Image.{private_segment, jump_code, image_segments, image}
-use Rattle.build_core.proofs.Preserved.{with_jump, StartHigh, IsAbove, preserved}
+use Rattle.build_core.proofs.JumpPreserves.{with_jump, StartHigh, IsAbove, preserved}
 
 not_empty : (entry : ℕ) (ss : List Segment) → is_exec entry ss ≡ true → (s : Segment) × (rest : List Segment) × (ss ≡ s ∷ rest)
 not_empty entry [] e = cc
@@ -56,7 +57,7 @@ is_above exe a =
     record { entry = entry_bound 0x08000000 exe.entry exe.segments a.segments a.entry; segments = start_high exe.segments a.segments; brk = omega arith }
 
 -- for each original that is accepted
-pub image_preserves : (bytes : List ℕ) (exe : Exe) → elf Original bytes ≡ Ok exe → Preserves bytes (image exe)
-image_preserves bytes exe e =
+pub image_preserves : RunsWider → (bytes : List ℕ) (exe : Exe) → elf Original bytes ≡ Ok exe → (elf Guest bytes ≡ Ok exe) × Preserves bytes (image exe)
+image_preserves wider bytes exe e =
     let a = accepted bytes exe e in
-    preserved bytes exe a.as_guest (read_back _ _ (writable exe a.fields) ∙ ap Ok (same_brk exe a.fields)) (is_above exe a.fields)
+    (a.as_guest, preserved wider bytes exe a.as_guest (read_back _ _ (writable exe a.fields) ∙ ap Ok (same_brk exe a.fields)) (is_above exe a.fields))
