@@ -6,7 +6,7 @@ use Rattle.br_outside.specs.Files.{Files, put}
 use Rattle.br_outside.specs.Outside.{ShelfView, StreamView}
 use Rattle.elf_read.specs.Elf.{elf, Refused}
 use Rattle.elf_read.specs.declared.exe.Exe.{Exe}
-use Rattle.elf_read.specs.declared.exe.Reach.TheVariants.{Original}
+use Rattle.elf_read.specs.declared.exe.Reach.TheVariants.{Original, Guest}
 use Rattle.build_core.specs.Image.{image}
 use Rattle.sim_laws.specs.Preserves.{Preserves}
 use Rattle.top_plan.specs.World.{World, on_shelf, on_report}
@@ -61,9 +61,9 @@ line_is o x a b h is = let P : WorkEnd → Type 0 = λ o. b ≡ option_map (λ w
 other : {A : Type 0} (o x : WorkEnd) (k : ℕ) → o ≡ x → end_status o ≡ k → (end_status x ≡ k → ⊥) → A
 other o x k is h apart = absurd (apart (sym (ap end_status is) ∙ h))
 
--- the image preserves the behaviour of each original
+-- each original is the same guest, and its image preserves its behaviour
 abbrev pub Law : Type 0
-Law = (file : List ℕ) (exe : Exe) → elf Original file ≡ Ok exe → Preserves file (image exe)
+Law = (file : List ℕ) (exe : Exe) → elf Original file ≡ Ok exe → (elf Guest file ≡ Ok exe) × Preserves file (image exe)
 
 kept_image : (name original content : List ℕ) (exe : Exe) (files : Files) (s t : World) → Law → IfSome s.shelf.files (λ files. files original ≡ Some content) → length content ≤ 16777216 → elf Original content ≡ Ok exe
     → t.shelf.files ≡ option_map (put name (Some (image exe))) s.shelf.files → s.shelf.files ≡ Some files → IsStored name original files t
@@ -73,8 +73,9 @@ kept_image name original content exe files s t law here short accepted stored to
   there = told_to s.shelf.files files (λ files. files original ≡ Some content) told here;
   short = short;
   accepted = accepted;
+  guest = (law content exe accepted).0;
   stored = stored ∙ ap (option_map (put name (Some (image exe)))) told;
-  preserved = law content exe accepted;
+  preserved = (law content exe accepted).1;
 }
 
 -- the status of an end, and its line

@@ -4,7 +4,7 @@ use Rattle.elf_read.specs.declared.limits.TheConstants.{ORIGINAL_FILE_LIMIT}
 use Rattle.br_outside.specs.Files.{Files, put}
 use Rattle.elf_read.specs.Elf.{elf, Refused}
 use Rattle.elf_read.specs.declared.exe.Exe.{Exe}
-use Rattle.elf_read.specs.declared.exe.Reach.TheVariants.{Original}
+use Rattle.elf_read.specs.declared.exe.Reach.TheVariants.{Original, Guest}
 use Rattle.build_core.specs.Image.{image}
 use Rattle.sim_laws.specs.Preserves.{Preserves}
 use Rattle.top_plan.specs.World.{World}
@@ -16,14 +16,15 @@ use Rattle.top_files.specs.Answers.{Says, Unstored, OnlyUnder}
 use Rattle.top_plan.specs.declared.ends.Object.TheVariants as objects
 use Rattle.top_plan.specs.declared.ends.Limit.TheVariants as limits
 
--- The content of the original is accepted, its image is stored under the name and preserves its behaviour, and all other
--- names are as before.
+-- The content of the original is accepted, and as a guest it is the same executable; its image is stored under the name and
+-- preserves its behaviour, and all other names are as before.
 pub record IsStored (name original : List ℕ) (files : Files) (t : World) : Type 0 where
   pub content : List ℕ
   pub exe : Exe
   pub there : files original ≡ Some content
   pub short : length content ≤ ORIGINAL_FILE_LIMIT
   pub accepted : elf Original content ≡ Ok exe
+  pub guest : elf Guest content ≡ Ok exe
   pub stored : t.shelf.files ≡ Some (put name (Some (image exe)) files)
   pub preserved : Preserves content (image exe)
 
