@@ -1,5 +1,6 @@
 -- The commands that are there so far, read from the words of the command line.
 use Rattle.std.specs.Prelude.{◌≡◌, ◌≤◌, ◌+◌, ◌^◌, ◌||◌, ℕ, min, nat_le, List, [], ◌∷◌, length, codes, Option, Some, None, Result, Ok, Err, cond}
+use Rattle.word_reader.specs.declared.limits.TheConstants.{TRACE_LIMIT}
 use Rattle.std.specs.Str.{bytes_eq}
 use Rattle.run_model.specs.Opening.{FitArguments}
 use Rattle.word_reader.specs.Words.{Asked, Traces, Runs, Merges, Shows, command}
@@ -38,8 +39,8 @@ pub record Fits (steps : ℕ) (args : List (List ℕ)) : Type 0 where
 abbrev pub IsFitting : Asked → Type 0
 IsFitting (Traces steps target original args) = Fits steps args
 IsFitting (Runs steps name args) = Fits steps args
-IsFitting (Merges target original names) = length names ≤ 4096
-IsFitting (Shows original names) = length names ≤ 4096
+IsFitting (Merges target original names) = length names ≤ TRACE_LIMIT
+IsFitting (Shows original names) = length names ≤ TRACE_LIMIT
 IsFitting _ = Unit {0}
 
 -- the position of the first wrong word, where one that is wrong stands behind the words that were read

@@ -14,17 +14,14 @@ ghost use Rattle.top_plan.specs.Texts.{end_of};
 
 use crate::lines::{finish_of, last_line};
 use br_outside::{Shelf, Sink, Source};
-use elf_read::{ElfError, Exe, Reach, read_elf};
+use elf_read::{ElfError, Exe, GUEST_FILE_LIMIT, Reach, read_elf};
 use guest_run::{Guest, SysError};
 use std::alloc::Global;
 use top_plan::{Cause, Halt, Object, Outcome, fetch_file};
 
-/// The most bytes of a file that is run.
-const FILE_LIMIT: u32 = 268435456;
-
 /// What a file says as a guest, which is named by this word.
 fn guest_of(alloc: Global, bytes: Vec<u8>, word: u32) -> Result<Exe, Halt>
-    requires { length bytes.items ≤ FILE_LIMIT }
+    requires { length bytes.items ≤ GUEST_FILE_LIMIT }
     ensures checks { Checks (λ exe. exe) result (of_word word (elf reaches.Guest bytes.items)) }
     ensures guest { IfOk result IsGuest }
 {
@@ -45,7 +42,7 @@ fn fetch_guest<F: Shelf>(alloc: Global, shelf: &mut F, name: &str, word: u32) ->
         (on_shelf w (F.seen shelf.old)) result (on_shelf w (F.seen shelf.new)) }
     ensures guest { IfOk result IsGuest }
 {
-    let bytes = fetch_file(alloc, shelf, name, FILE_LIMIT)?;
+    let bytes = fetch_file(alloc, shelf, name, GUEST_FILE_LIMIT)?;
     guest_of(alloc, bytes, word)
 }
 
