@@ -93,7 +93,7 @@ usage_rows() {
 
 outside_rows() {
     row 'a folder that is not there' 3 '' 'outside shelf\n' build nowhere/N X1
-    [ -w /dev/full ] || { fail 'a full device: no /dev/full'; return; }
+    [ -w /dev/full ] || { skip 'a full device: no /dev/full'; return; }
     "${tool[@]}" build N X1 2> /dev/full
     if [ $? = 3 ]; then pass; else fail 'a report that cannot be written: status 3 wanted'; fi
 }
@@ -259,7 +259,7 @@ show_rows() {
     row 'show of a trace of another file' 2 '' 'refused word 2 22 8\n' show X1 T9
     row 'show of the second trace' 2 '' 'refused word 3 21 0\n' show X1 T1 X1
     row 'show of a file below the lowest address' 2 '' 'refused word 1 9 52\n' show low
-    command -v perl > /dev/null || { fail 'show: no perl, which makes a large trace'; return; }
+    command -v perl > /dev/null || { skip 'show of too many blocks: no perl, which makes a large trace'; return; }
     executable wide "$(perl -e 'print "c3", "90" x 65540')"
     { trace_head 65537 wide; perl -e 'print pack("VV", 0x08048054, 0x08048055 + $_) for 0 .. 65536'; } > targets
     row 'show of too many blocks' 7 '' 'limit blocks 65536\n' show wide targets
@@ -310,7 +310,7 @@ if expects merge; then
         large_traces
         merge_rows
     else
-        fail 'merge: no perl, which makes large traces'
+        skip 'merge: no perl, which makes large traces'
     fi
 fi
 if expects show; then
