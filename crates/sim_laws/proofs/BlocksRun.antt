@@ -27,15 +27,15 @@ use Rattle.sim_laws.specs.InCode.{IsStateOf, StepsInCode}
 use Rattle.sim_laws.specs.Through.{Comes}
 
 -- a step that does not fault
-record Went (i : Inst) (n : ℕ) (s : State) (c : ℕ) : Type 0 where
+pub record Went (i : Inst) (n : ℕ) (s : State) (c : ℕ) : Type 0 where
   pub way : step_result s c ≡ On (step s c)
   pub goes : GoesBy (kind_of i) i n s (step s c)
 
 module _ (by_kind : EachGoesByKind) (steps : StepsInCode) (one : EachHasOneBlock) (exe : Exe) (guest : IsGuest exe) where
-  block_is : (start : ℕ) → IsBlock exe start (block_of exe start)
+  pub block_is : (start : ℕ) → IsBlock exe start (block_of exe start)
   block_is start = (one exe start (block_of exe start)).1 refl
 
-  went : (s : State) (i : Inst) (n c : ℕ) → IsStateOf exe s → s.stop ≡ Running → found_at exe s.eip ≡ There i n → NoFault (step_result s c) → Went i n s c
+  pub went : (s : State) (i : Inst) (n c : ℕ) → IsStateOf exe s → s.stop ≡ Running → found_at exe s.eip ≡ There i n → NoFault (step_result s c) → Went i n s c
   unfolding step
   went s i n c h r f w = by_way (step_result s c) refl w
     where
@@ -49,18 +49,18 @@ module _ (by_kind : EachGoesByKind) (steps : StepsInCode) (one : EachHasOneBlock
   quiet_on : (s t u : State) → IsQuiet s t → IsQuiet t u → IsQuiet s u
   quiet_on s t u a b = record { seen = b.seen ∙ a.seen; brk = b.brk ∙ a.brk }
 
-  comes : (s : State) (c : ℕ) → IsStateOf exe s → s.stop ≡ Running → IsQuiet s (step s c) → Comes exe s (step s c)
+  pub comes : (s : State) (c : ℕ) → IsStateOf exe s → s.stop ≡ Running → IsQuiet s (step s c) → Comes exe s (step s c)
   comes s c h r q = record { of = steps exe s c h; running = ap (λ (o : Observation). o.stop) q.seen ∙ r; quiet = q }
 
-  comes_on : (s t u : State) → Comes exe s t → Comes exe t u → Comes exe s u
+  pub comes_on : (s t u : State) → Comes exe s t → Comes exe t u → Comes exe s u
   comes_on s t u a b = record { of = b.of; running = b.running; quiet = quiet_on s t u a.quiet b.quiet }
 
-  behind : (at : ℕ) (i : Inst) (n : ℕ) → found_at exe at ≡ There i n → wrap (at + n) ≡ at + n
+  pub behind : (at : ℕ) (i : Inst) (n : ℕ) → found_at exe at ≡ There i n → wrap (at + n) ≡ at + n
   behind at i n f =
       let l : at + n ≤ 0xA0000000 = inside exe at (Some (i, n)) guest (ap inst_found (sym f)) in
       mod-eq_of_lt (omega (arith, l))
 
-  plain_step : (s : State) (p : Placed) → IsStateOf exe s → s.stop ≡ Running → found_at exe s.eip ≡ There p.inst p.size → kind_of p.inst ≡ kinds.Plain → IsWellDefined s
+  pub plain_step : (s : State) (p : Placed) → IsStateOf exe s → s.stop ≡ Running → found_at exe s.eip ≡ There p.inst p.size → kind_of p.inst ≡ kinds.Plain → IsWellDefined s
       → Comes exe s (step s 0) × ((step s 0).eip ≡ s.eip + p.size)
   plain_step s p h r f k w =
       let g = went s p.inst p.size 0 h r f (w.no_fault r) in
