@@ -12,8 +12,8 @@ use Rattle.ia_inst.specs.declared.inst.Inst.{Inst}
 use Rattle.ia_inst.specs.Canonical.{valid_of}
 use Rattle.ia_inst.specs.Instructions.{decode_of}
 use Rattle.ia_inst.specs.Step.{NoCode, There, found_from}
-use Rattle.ia_decode.proofs.Answered.{decode_take, decode_length, decode_valid}
-use Rattle.ia_decode.proofs.Steps.{IsBytes}
+use Rattle.ia_decode.proofs.DecodedInstruction.{decode_take, decode_length, decode_valid}
+use Rattle.ia_decode.proofs.Readers.{IsBytes}
 use Rattle.block_cut.specs.Places.{found_at, inst_found}
 
 -- bytes that are read are bytes, so what they spell is valid
