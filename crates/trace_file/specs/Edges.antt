@@ -71,7 +71,8 @@ pub record IsSetOf (Holds : Edge → Type 0) (made : List Edge) : Type 0 where
 
 -- an edge is in the union exactly where it is in one of the two
 abbrev pub IsInBoth : List Edge → List Edge → List Edge → Edge → Type 0
-IsInBoth left right all e = (Contains all e → Contains left e ⊎ Contains right e) × (Contains left e ⊎ Contains right e → Contains all e)
+IsInBoth left right all e =
+    (Contains all e → Contains left e ⊎ Contains right e) × (Contains left e ⊎ Contains right e → Contains all e)
 
 -- an edge is in one of the sets
 abbrev pub IsInSome : List (List Edge) → Edge → Type 0
