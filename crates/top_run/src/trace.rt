@@ -20,7 +20,7 @@ use top_plan::{Cause, Halt, Limit, Object, Outcome};
 use trace_file::FILE_EDGE_LIMIT;
 use tracer::{Traced, TracingError, trace};
 
-/// The stop of the work where a run was not traced to its end.
+/// How the work ends where a run was not traced to its end.
 fn halt_of_tracing(error: TracingError) -> Halt
     ensures { result ≡ halt_of_tracing error }
 {
