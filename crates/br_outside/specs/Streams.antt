@@ -8,11 +8,10 @@ pub record Streams : Type 0 where
   pub out : StreamView
   pub err : StreamView
 
--- no call on the object failed
+-- no call on the object failed: the count of its faults is as it was
 pub record Steady (old new : StreamView) : Type 0 where
   pub calm : new.calm ≡ old.calm
-  pub later : old.faults ≤ new.faults
-  pub quiet : IsTrue old.calm → new.faults ≡ old.faults
+  pub same : new.faults ≡ old.faults
 
 -- a call on the object failed, which none does on a calm one
 pub record Fails (old new : StreamView) : Type 0 where

@@ -3,6 +3,7 @@ use Rattle.std.specs.Prelude.{◌≡◌, ◌≢◌, ℕ, ◌-◌, ◌<◌, Bool,
 use Rattle.br_word.specs.declared.types.Perms.{Perms}
 use Rattle.br_word.specs.Memory.{Region, Use, allows, covers}
 use Rattle.elf_read.specs.declared.exe.Segment.{Segment}
+use Rattle.guest_mem.specs.declared.area.TheConstants.{STACK_START, STACK_SIZE}
 use Rattle.elf_read.specs.declared.exe.Exe.{Exe}
 
 -- the access is to bytes of the region, and its permissions allow it
@@ -31,18 +32,22 @@ pub record Shape : Type 0 where
   pub perms : Perms
   pub size : ℕ
 
+-- the shape of a region
 abbrev pub shape_of : Region → Shape
 shape_of r = record { start = r.start; perms = r.perms; size = length r.bytes }
 
+-- a region that may be read and written
 abbrev pub data_at : ℕ → ℕ → Shape
 data_at start size = record { start = start; perms = record { read = true; write = true; exec = false }; size = size }
 
+-- the shape of a segment in memory
 abbrev pub segment_shape : Segment → Shape
 segment_shape s = record { start = s.start; perms = s.perms; size = s.size }
 
 -- the regions of a guest with this break: the segments in ascending order, the stack, the heap
 abbrev pub shapes_of : Exe → ℕ → List Shape
-shapes_of exe brk = map segment_shape exe.segments ++ (data_at 0xBFF00000 1048576 ∷ data_at exe.brk_start (brk - exe.brk_start) ∷ [])
+shapes_of exe brk = map segment_shape exe.segments
+    ++ (data_at STACK_START STACK_SIZE ∷ data_at exe.brk_start (brk - exe.brk_start) ∷ [])
 
 -- nothing can be run that can be written, or that starts at this address
 abbrev pub KeepsCode : ℕ → List Shape → Type 0

@@ -7,13 +7,13 @@ use Rattle.ia_meaning.specs.declared.cpu.Cpu.{Cpu}
 use Rattle.guest_sys.specs.declared.answers.SysError.{SysError}
 use Rattle.br_outside.specs.Streams.{Streams}
 use Rattle.guest_sys.specs.Machine.{state_of, fed, bare}
-use Rattle.guest_sys.proofs.Done.{had, told_had}
+use Rattle.guest_run.proofs.StreamsJoined.{had, told_had}
 use Rattle.guest_run.specs.declared.stop.Stop as answer
 use Rattle.guest_run.specs.declared.stop.Stop.TheVariants as answers
 use Rattle.guest_run.specs.declared.advance.Advanced.{Advanced}
 use Rattle.run_model.specs.Edges.{Edge, edge_by, edge_at, is_transfer}
 use Rattle.guest_run.specs.Guest.{GuestView, view_of, stop_of, answer_of, first_edge, stepped, StepCall}
-use Rattle.guest_run.proofs.Ways.{way_done, few_ahead}
+use Rattle.guest_run.proofs.CallResults.{way_done, few_ahead}
 use Rattle.guest_run.specs.Advance.{Advance, edge_by_found}
 
 stop_again : (s : RunState) → stop_of (answer_of s) ≡ s

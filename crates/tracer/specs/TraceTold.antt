@@ -11,7 +11,8 @@ use Rattle.run_model.specs.Run.{run}
 use Rattle.run_model.specs.Edges.{edges_from}
 use Rattle.guest_run.specs.Guest.{ahead, answer_of, steps_taken, undefined_taken, RunFailsAt}
 use Rattle.trace_file.specs.Edges.{Edge, in_order}
-use Rattle.tracer.specs.Tour.{entry_edge, edge_limit}
+use Rattle.tracer.specs.TracedRun.{entry_edge, AreFew}
+use Rattle.tracer.specs.declared.recorder.TheConstants.{EDGE_LIMIT}
 use Rattle.tracer.specs.declared.answers.Traced.{Traced}
 use Rattle.tracer.specs.declared.answers.TracingError.{TracingError}
 use Rattle.tracer.specs.declared.answers.TracingError.TheVariants as errors
@@ -23,7 +24,7 @@ edges_in exe s n = in_order (entry_edge exe ∷ edges_from n s)
 -- all steps were taken, and their edges are recorded
 pub record TraceDone (n : ℕ) (exe : Exe) (s : State) (t : Traced) (before after : Streams) : Type 0 where
   pub edges : t.edges ≡ edges_in exe s n
-  pub within : (k : ℕ) → k ≤ n → length (edges_in exe s k) ≤ edge_limit
+  pub within : (k : ℕ) → k ≤ n → AreFew (edges_in exe s k)
   pub stop : t.stop ≡ answer_of (run n s []).stop
   pub steps : t.steps ≡ steps_taken n s
   pub undefined : t.undefined ≡ undefined_taken n s
@@ -35,8 +36,8 @@ pub record TraceDone (n : ℕ) (exe : Exe) (s : State) (t : Traced) (before afte
 pub record TraceFull (n : ℕ) (exe : Exe) (s : State) (before after : Streams) : Type 0 where
   pub taken : ℕ
   pub most : taken ≤ n
-  pub within : (k : ℕ) → k < taken → length (edges_in exe s k) ≤ edge_limit
-  pub passed : edge_limit < length (edges_in exe s taken)
+  pub within : (k : ℕ) → k < taken → AreFew (edges_in exe s k)
+  pub passed : EDGE_LIMIT < length (edges_in exe s taken)
   pub more : ℕ
   pub few : more ≤ ahead (run taken s [])
   pub streams : Passes (run taken s []) more before after
@@ -45,15 +46,15 @@ pub record TraceFull (n : ℕ) (exe : Exe) (s : State) (before after : Streams) 
 pub record TraceFailed (e : SysError) (n : ℕ) (exe : Exe) (s : State) (before after : Streams) : Type 0 where
   pub done : ℕ
   pub most : done < n
-  pub within : (k : ℕ) → k ≤ done → length (edges_in exe s k) ≤ edge_limit
+  pub within : (k : ℕ) → k ≤ done → AreFew (edges_in exe s k)
   pub running : (run done s []).stop ≡ Running
   pub streams : RunFailsAt e (run done s []) (step (run done s []) 0) before after
 
 -- memory was wanting after the first `done` steps, or in the step after them
-pub record TraceWants (n : ℕ) (exe : Exe) (s : State) (before after : Streams) : Type 0 where
+pub record TraceWanted (n : ℕ) (exe : Exe) (s : State) (before after : Streams) : Type 0 where
   pub done : ℕ
   pub most : done ≤ n
-  pub within : (k : ℕ) → k ≤ done → length (edges_in exe s k) ≤ edge_limit
+  pub within : (k : ℕ) → k ≤ done → AreFew (edges_in exe s k)
   pub streams : RunFailsAt sys.Memory (run done s []) (step (run done s []) 0) before after
 
 -- by the answer
@@ -63,4 +64,4 @@ TraceGives (Err errors.Union) n exe s before after = TraceFull n exe s before af
 TraceGives (Err errors.Input) n exe s before after = TraceFailed sys.Input n exe s before after
 TraceGives (Err errors.Out) n exe s before after = TraceFailed sys.Out n exe s before after
 TraceGives (Err errors.Report) n exe s before after = TraceFailed sys.Report n exe s before after
-TraceGives (Err errors.Memory) n exe s before after = TraceWants n exe s before after
+TraceGives (Err errors.Memory) n exe s before after = TraceWanted n exe s before after

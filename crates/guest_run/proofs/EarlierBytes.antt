@@ -112,7 +112,7 @@ asked_shown NoCode w e s = refl
 asked_shown NoInst w e s = refl
 asked_shown (There i n) w e s = refl
 
-reads_shown : (w e : List ℕ) (s : State) → reads_undefined (shown w e s) ≡ reads_undefined s
+pub reads_shown : (w e : List ℕ) (s : State) → reads_undefined (shown w e s) ≡ reads_undefined s
 reads_shown w e s = ap (λ fs. some_unmarked fs s.cpu.marks) (asked_shown (found s.eip s.regions) w e s)
 
 by_asked : (b : Bool) (w e : List ℕ) (s : State) → asks_by b (shown w e s) ≡ asks_by b s
@@ -136,7 +136,7 @@ at_shown NoCode w e s c = refl
 at_shown NoInst w e s c = refl
 at_shown (There i n) w e s c = ap (λ x. edge_by (is_transfer i) x s.eip) (way_at_shown (found s.eip s.regions) w e s c) ∙ by_shown (is_transfer i) (result_at (found s.eip s.regions) s c) w e s.eip
 
-of_shown : (x : RunState) (w e : List ℕ) (s : State) (c : ℕ) → edge_of x (shown w e s) c ≡ edge_of x s c
+pub of_shown : (x : RunState) (w e : List ℕ) (s : State) (c : ℕ) → edge_of x (shown w e s) c ≡ edge_of x s c
 of_shown Running w e s c = at_shown (found s.eip s.regions) w e s c
 of_shown (Exited n) w e s c = refl
 of_shown (Faulted f) w e s c = refl

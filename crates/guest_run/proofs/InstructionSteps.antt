@@ -23,17 +23,13 @@ use Rattle.guest_sys.specs.declared.answers.SysError.{SysError}
 use Rattle.br_outside.specs.Streams.{Streams, Tells}
 use Rattle.guest_sys.specs.Machine.{Machine, state_of, fed}
 use Rattle.guest_sys.specs.Calls.{Passes}
-use Rattle.guest_sys.proofs.Done.{had, told_had, leaves_same, gains_none}
+use Rattle.guest_run.proofs.StreamsJoined.{had, told_had, same_passes}
 use Rattle.guest_run.specs.declared.stop.Stop.TheVariants as answers
 use Rattle.guest_run.specs.declared.advance.Advanced.{Advanced}
 use Rattle.run_model.specs.Edges.{Edge, edge_by, is_transfer}
 use Rattle.guest_run.specs.Guest.{first_edge, is_trap}
 use Rattle.guest_run.specs.Advance.{Expected, Advances, AdvanceGives, Advance, Trap, of_call, IsFound, edge_if}
 use Rattle.guest_run.proofs.NoCall.{called_traps}
-
--- no stream is touched
-pub passes_none : (t : State) (v : Streams) → Tells t.input v.input → t.out ≡ [] → t.err ≡ [] → Passes t 0 v v
-passes_none t v told out err = record { input = leaves_same v.input t.input told; out = gains_none v.out t.out out; err = gains_none v.err t.err err }
 
 -- the expectation of an instruction that goes this way
 abbrev pub of_inst : Inst → ℕ → State → StepResult → Expected
@@ -72,7 +68,7 @@ next_at i k c left u v m n b (Next w rs to) told h un = record {
   undefined = un ∙ ap (λ d. u.undefined + d) (undefined_is i k left u m);
   more = 0;
   few = omega arith;
-  streams = passes_none _ b told refl refl;
+  streams = same_passes _ b told refl refl;
   idle = λ _. refl;
 }
 next_at i k c left u v m n b (Denied at) told h un = absurd h
@@ -90,7 +86,7 @@ fault_at i k c left u v m n b f (Denied at) told h un = record {
   undefined = un ∙ ap (λ d. u.undefined + d) (undefined_is i k left u m);
   more = 0;
   few = omega arith;
-  streams = passes_none _ b told refl refl;
+  streams = same_passes _ b told refl refl;
   idle = λ _. refl;
 }
 fault_at i k c left u v m n b f Divided told h un = record {
@@ -100,7 +96,7 @@ fault_at i k c left u v m n b f Divided told h un = record {
   undefined = un ∙ ap (λ d. u.undefined + d) (undefined_is i k left u m);
   more = 0;
   few = omega arith;
-  streams = passes_none _ b told refl refl;
+  streams = same_passes _ b told refl refl;
   idle = λ _. refl;
 }
 
@@ -131,7 +127,7 @@ no_code c u m b = record {
     undefined = omega arith;
     more = 0;
     few = omega arith;
-    streams = passes_none _ b (told_had b.input.bytes) refl refl;
+    streams = same_passes _ b (told_had b.input.bytes) refl refl;
     idle = λ _. refl;
   };
 }
@@ -147,7 +143,7 @@ no_inst c u m b = record {
     undefined = omega arith;
     more = 0;
     few = omega arith;
-    streams = passes_none _ b (told_had b.input.bytes) refl refl;
+    streams = same_passes _ b (told_had b.input.bytes) refl refl;
     idle = λ _. refl;
   };
 }

@@ -20,7 +20,7 @@ use Rattle.guest_run.specs.declared.stop.Stop.TheVariants as answers
 use Rattle.guest_run.specs.declared.advance.Advanced.{Advanced}
 use Rattle.guest_run.specs.Guest.{answer_of}
 use Rattle.guest_run.specs.Advance.{Expected, Advances, AdvanceFails, Trap}
-use Rattle.guest_run.proofs.Ways.{system_eip, IsDone, system_done, system_silent, asks_read}
+use Rattle.guest_run.proofs.CallResults.{system_eip, IsDone, system_done, system_silent, asks_read}
 
 -- the answer of a call, as the stop of a run
 abbrev pub stop_as : Called → answer.Stop
