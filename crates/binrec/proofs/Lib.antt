@@ -1,6 +1,7 @@
 pub mod Fitting
 pub mod Turning
 pub mod Taking
+pub mod EdgesOfSteps
 pub mod Sparing
 pub mod Ending
 pub mod TourEnding

@@ -14,7 +14,8 @@ use Rattle.flow_graph.specs.Graph.{Node}
 use Rattle.flow_graph.specs.Made.{graph_of}
 use Rattle.guest_run.specs.Guest.{GuestView, beginning, while_running, stop_of}
 use Rattle.tracer.specs.declared.answers.Traced.{Traced}
-use Rattle.tracer.specs.Tour.{entry_edge, traced, with_step, edge_limit}
+use Rattle.tracer.specs.TracedRun.{entry_edge, traced, with_step}
+use Rattle.tracer.specs.declared.recorder.TheConstants.{EDGE_LIMIT}
 use Rattle.top_plan.specs.World.{World, on_shelf, on_out}
 use Rattle.top_plan.specs.Texts.{Finished, WorkEnd, end_status, finish_status, cause_status}
 use Rattle.top_plan.specs.Plan.{Plan, Ends, Fetches, Stores, Prints, Turned, Turns, Went, GoesOn, FailsInput, FailsOutput, FailsReport, WantsMemory}
@@ -83,7 +84,7 @@ tour_end : (last : Traced → Plan) → ((t : Traced) → EndsSo (last t)) → (
 unfolding tour_plan
 tour_end last ends zero g es = ends (traced g es)
 tour_end last ends (suc n) g es = while_end g.state.stop (Turns (next_turn g) (λ left. unless_full (tour_plan last n (next_guest g left)) (with_step (next_guest g left).edge es))) (last (traced g es))
-    (turns_end (next_turn g) _ (λ left. full_end (nat_le (length (with_step (next_guest g left).edge es)) edge_limit) _ (tour_end last ends n (next_guest g left) (with_step (next_guest g left).edge es)))) (ends (traced g es))
+    (turns_end (next_turn g) _ (λ left. full_end (nat_le (length (with_step (next_guest g left).edge es)) EDGE_LIMIT) _ (tour_end last ends n (next_guest g left) (with_step (next_guest g left).edge es)))) (ends (traced g es))
 
 -- ---- parts of plans
 

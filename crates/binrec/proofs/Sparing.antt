@@ -22,7 +22,8 @@ use Rattle.flow_graph.specs.Made.{graph_of}
 use Rattle.binrec.specs.Listings.{listing, limited_graph, shown_as, listing_part}
 use Rattle.top_plan.specs.Parts.{prints}
 use Rattle.tracer.specs.declared.answers.Traced.{Traced}
-use Rattle.tracer.specs.Tour.{traced, with_step, edge_limit, entry_edge}
+use Rattle.tracer.specs.TracedRun.{traced, with_step, entry_edge}
+use Rattle.tracer.specs.declared.recorder.TheConstants.{EDGE_LIMIT}
 use Rattle.binrec.specs.Tours.{tour_plan, unless_full}
 use Rattle.binrec.specs.Commands.{image_part, traced_part, trace_plan, merge_plan, show_plan, of_command, plan}
 use Rattle.top_plan.specs.declared.ends.Cause.{Cause}
@@ -77,8 +78,8 @@ tour_turns P last (suc n) g es each quiet ends =
     let now : List ℕ → List Edge = λ left. with_step (next_guest g left).edge es in
     while_turns P g.state.stop (Turns (next_turn g) (λ left. unless_full (tour_plan last n (next_guest g left)) (now left))) (last (traced g es))
     (λ running left. (
-      unless_too_many (λ p. AllTurns P p) (nat_le (length (now left)) edge_limit) _ _ (tour_turns P last n (next_guest g left) (now left) each quiet ends) tt,
-      each g left _ running (λ not. unless_too_many (λ p. NoInput p) (nat_le (length (now left)) edge_limit) _ _ (tour_quiet last n (next_guest g left) (now left) quiet not) tt),
+      unless_too_many (λ p. AllTurns P p) (nat_le (length (now left)) EDGE_LIMIT) _ _ (tour_turns P last n (next_guest g left) (now left) each quiet ends) tt,
+      each g left _ running (λ not. unless_too_many (λ p. NoInput p) (nat_le (length (now left)) EDGE_LIMIT) _ _ (tour_quiet last n (next_guest g left) (now left) quiet not) tt),
     ))
     (ends (traced g es))
 

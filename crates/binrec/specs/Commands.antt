@@ -16,7 +16,7 @@ use Rattle.flow_graph.specs.Made.{graph_of}
 use Rattle.binrec.specs.Words.{asked_by, first_name}
 use Rattle.binrec.specs.Listings.{limited_graph, listing_part}
 use Rattle.tracer.specs.declared.answers.Traced.{Traced}
-use Rattle.tracer.specs.Tour.{entry_edge}
+use Rattle.tracer.specs.TracedRun.{entry_edge}
 use Rattle.binrec.specs.Guests.{guest_plan}
 use Rattle.binrec.specs.Tours.{traced_as, tour_plan}
 use Rattle.binrec.specs.Traces.{of_word, original_part, subject_part, traces_part, limited}

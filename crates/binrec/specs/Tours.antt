@@ -7,7 +7,8 @@ use Rattle.trace_file.specs.Edges.{Edge}
 use Rattle.tracer.specs.declared.answers.Traced.{Traced}
 use Rattle.tracer.specs.declared.answers.TracingError.{TracingError}
 use Rattle.tracer.specs.declared.answers.TracingError.TheVariants as errors
-use Rattle.tracer.specs.Tour.{traced, with_step, edge_limit}
+use Rattle.tracer.specs.TracedRun.{traced, with_step}
+use Rattle.tracer.specs.declared.recorder.TheConstants.{EDGE_LIMIT}
 use Rattle.top_plan.specs.Texts.{Finished}
 use Rattle.top_plan.specs.Plan.{Plan, Ends, Turns}
 use Rattle.binrec.specs.Guests.{stand_text, counts_text, finish_of, next_guest, next_turn}
@@ -26,7 +27,7 @@ traced_as t = record { finish = finish_of (stop_of t.stop); line = traced_line (
 
 -- the guest has these edges, unless they are too many
 abbrev pub unless_full : (List Edge → Plan) → List Edge → Plan
-unless_full next es = cond (nat_le (length es) edge_limit) (next es) (Ends (Err (Limited limits.Union)))
+unless_full next es = cond (nat_le (length es) EDGE_LIMIT) (next es) (Ends (Err (Limited limits.Union)))
 
 -- a guest that has recorded these edges takes at most n steps, as long as it runs
 unfoldable pub tour_plan : (Traced → Plan) → ℕ → GuestView → List Edge → Plan

@@ -6,8 +6,7 @@ use Rattle.br_word.specs.State.{State, RunState, Running, Exited, Faulted}
 use Rattle.ia_inst.specs.Act.{Completion, Next, Denied, Divided, Called, perform}
 use Rattle.br_word.specs.Memory.{Region, resized}
 use Rattle.ia_inst.specs.System.{StepResult, On, Bad, or_bad, answers, buffer, filled, call_exit, call_read, call_write, call_brk, system}
-use Rattle.ia_inst.specs.Step.{Found, NoCode, NoInst, There, found, act_of, result_of, result_at, settled, unless_stopped, asked_at, step}
-use Rattle.ia_meaning.specs.Effect.{some_unmarked}
+use Rattle.ia_inst.specs.Step.{Found, NoCode, NoInst, There, found, act_of, result_of, result_at, settled, unless_stopped, asked_at, step, some_unmarked}
 use Rattle.guest_sys.specs.Calls.{spare}
 use Rattle.guest_sys.specs.Machine.{fed, bare}
 use Rattle.run_model.specs.Edges.{Edge, edge_by, edge_at, edge_of, is_transfer}

@@ -13,12 +13,12 @@ use Rattle.ia_inst.specs.Act.{Completion, Next, Denied, Divided, Called, perform
 use Rattle.ia_inst.specs.Meaning.{meaning}
 use Rattle.ia_inst.specs.Kinds.{flags_read}
 use Rattle.ia_inst.specs.System.{StepResult, On, Bad}
-use Rattle.ia_inst.specs.Step.{Found, NoCode, NoInst, There, result_of, next_eip, settled, asked_at}
+use Rattle.ia_inst.specs.Step.{Found, NoCode, NoInst, There, result_of, next_eip, settled, asked_at, some_unmarked}
 use Rattle.ia_inst.proofs.Asked.{asked_is_read}
 use Rattle.guest_mem.specs.View.{MemoryView}
 use Rattle.ia_meaning.specs.declared.cpu.Cpu.{Cpu}
 use Rattle.ia_meaning.specs.declared.cpu.Outcome.TheVariants as outcome
-use Rattle.ia_meaning.specs.Effect.{view, Comes, some_unmarked}
+use Rattle.ia_meaning.specs.Effect.{view, Comes}
 use Rattle.guest_sys.specs.declared.answers.SysError.{SysError}
 use Rattle.br_outside.specs.Streams.{Streams, Tells}
 use Rattle.guest_sys.specs.Machine.{Machine, state_of, fed}

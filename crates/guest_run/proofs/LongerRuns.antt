@@ -1,4 +1,4 @@
--- A run of m + j steps is a run of m steps and then one of j.
+-- A run of n steps, where n is m + j, is a run of m steps and then one of j.
 use Rattle.std.proofs.Common.{◌≡◌, ℕ, zero, suc, ◌+◌, ◌≤◌, List, [], ◌∷◌, ◌++◌, Option, Some, None, refl, sym, ◌∙◌, ap, subst, arith, append_assoc}
 use Rattle.std.proofs.lemmas.List.{append-nil}
 use Rattle.br_word.specs.Words.{bit}
@@ -21,71 +21,77 @@ edges_none (suc n) s h = ap (λ xs. xs ++ edges_from n (step s 0)) (of_none s.st
 
 -- a state runs or has stopped
 pub data Stands (s : State) : Type 0 where
-  Runs : s.stop ≡ Running → Stands s
-  Stopped : (s.stop ≡ Running → ⊥) → Stands s
+  StillRuns : s.stop ≡ Running → Stands s
+  HasStopped : (s.stop ≡ Running → ⊥) → Stands s
 
 pub stands : (s : State) → Stands s
 stands s = go s.stop refl
   where
     go : (x : RunState) → s.stop ≡ x → Stands s
-    go Running q = Runs q
-    go (Exited n) q = Stopped (λ r. let z = sym q ∙ r in cc)
-    go (Faulted f) q = Stopped (λ r. let z = sym q ∙ r in cc)
+    go Running q = StillRuns q
+    go (Exited n) q = HasStopped (λ r. let z = sym q ∙ r in cc)
+    go (Faulted f) q = HasStopped (λ r. let z = sym q ∙ r in cc)
 
-pub run_add : (m j : ℕ) (s : State) → run (m + j) s [] ≡ run j (run m s []) []
-run_add zero j s = refl
-run_add (suc m) j s = run_add m j (step s 0)
+pub run_add : (m j n : ℕ) (s : State) → n ≡ m + j → run n s [] ≡ run j (run m s []) []
+run_add zero j n s e = let same : n ≡ j = omega (arith, e) in ap (λ k. run k s []) same
+run_add (suc m) j zero s e = absurd (omega (arith, e))
+run_add (suc m) j (suc n) s e = run_add m j n (step s 0) (omega (arith, e))
 
-pub steps_add : (m j : ℕ) (s : State) → steps_taken (m + j) s ≡ steps_taken m s + steps_taken j (run m s [])
-steps_add zero j s = refl
-steps_add (suc m) j s = go (stands s)
+pub steps_add : (m j n : ℕ) (s : State) → n ≡ m + j → steps_taken n s ≡ steps_taken m s + steps_taken j (run m s [])
+steps_add zero j n s e = let same : n ≡ j = omega (arith, e) in omega (arith, ap (λ k. steps_taken k s) same)
+steps_add (suc m) j zero s e = absurd (omega (arith, e))
+steps_add (suc m) j (suc n) s e = go (stands s) (steps_add m j n (step s 0) (omega (arith, e)))
   where
-    go : Stands s → steps_taken (suc m + j) s ≡ steps_taken (suc m) s + steps_taken j (run (suc m) s [])
-    go (Runs q) = omega (
+    go : Stands s → steps_taken n (step s 0) ≡ steps_taken m (step s 0) + steps_taken j (run m (step s 0) []) → steps_taken (suc n) s ≡ steps_taken (suc m) s + steps_taken j (run (suc m) s [])
+    go (StillRuns q) rest = omega (
       arith,
-      running_some s.stop (1 + steps_taken (m + j) (step s 0)) 0 q,
+      running_some s.stop (1 + steps_taken n (step s 0)) 0 q,
       running_some s.stop (1 + steps_taken m (step s 0)) 0 q,
-      steps_add m j (step s 0),
+      rest,
     )
-    go (Stopped h) = omega (arith, steps_none (suc m + j) s h, steps_none (suc m) s h, steps_none j s h, ap (λ t. steps_taken j t) (run_none (suc m) s h))
+    go (HasStopped h) rest = omega (arith, steps_none (suc n) s h, steps_none (suc m) s h, steps_none j s h, ap (λ t. steps_taken j t) (run_none (suc m) s h))
 
-pub undefined_add : (m j : ℕ) (s : State) → undefined_taken (m + j) s ≡ undefined_taken m s + undefined_taken j (run m s [])
-undefined_add zero j s = refl
-undefined_add (suc m) j s = go (stands s)
+pub undefined_add : (m j n : ℕ) (s : State) → n ≡ m + j → undefined_taken n s ≡ undefined_taken m s + undefined_taken j (run m s [])
+undefined_add zero j n s e = let same : n ≡ j = omega (arith, e) in omega (arith, ap (λ k. undefined_taken k s) same)
+undefined_add (suc m) j zero s e = absurd (omega (arith, e))
+undefined_add (suc m) j (suc n) s e = go (stands s) (undefined_add m j n (step s 0) (omega (arith, e)))
   where
-    go : Stands s → undefined_taken (suc m + j) s ≡ undefined_taken (suc m) s + undefined_taken j (run (suc m) s [])
-    go (Runs q) = omega (
+    go : Stands s → undefined_taken n (step s 0) ≡ undefined_taken m (step s 0) + undefined_taken j (run m (step s 0) [])
+        → undefined_taken (suc n) s ≡ undefined_taken (suc m) s + undefined_taken j (run (suc m) s [])
+    go (StillRuns q) rest = omega (
       arith,
-      running_some s.stop (bit (reads_undefined s) + undefined_taken (m + j) (step s 0)) 0 q,
+      running_some s.stop (bit (reads_undefined s) + undefined_taken n (step s 0)) 0 q,
       running_some s.stop (bit (reads_undefined s) + undefined_taken m (step s 0)) 0 q,
-      undefined_add m j (step s 0),
+      rest,
     )
-    go (Stopped h) = omega (arith, undefined_none (suc m + j) s h, undefined_none (suc m) s h, undefined_none j s h, ap (λ t. undefined_taken j t) (run_none (suc m) s h))
+    go (HasStopped h) rest = omega (arith, undefined_none (suc n) s h, undefined_none (suc m) s h, undefined_none j s h, ap (λ t. undefined_taken j t) (run_none (suc m) s h))
 
-pub edge_add : (m j : ℕ) (s : State) (e : Option Edge) → edge_after (m + j) s e ≡ edge_after j (run m s []) (edge_after m s e)
-edge_add zero j s e = refl
-edge_add (suc m) j s e = go (stands s)
+pub edge_add : (m j n : ℕ) (s : State) (d : Option Edge) → n ≡ m + j → edge_after n s d ≡ edge_after j (run m s []) (edge_after m s d)
+edge_add zero j n s d e = let same : n ≡ j = omega (arith, e) in ap (λ k. edge_after k s d) same
+edge_add (suc m) j zero s d e = absurd (omega (arith, e))
+edge_add (suc m) j (suc n) s d e = go (stands s) (edge_add m j n (step s 0) (first_edge (edge_of s.stop s 0)) (omega (arith, e)))
   where
     f : Option Edge
     f = first_edge (edge_of s.stop s 0)
 
-    go : Stands s → edge_after (suc m + j) s e ≡ edge_after j (run (suc m) s []) (edge_after (suc m) s e)
-    go (Runs q) =
-        running_some s.stop (edge_after (m + j) (step s 0) f) e q
-        ∙ (edge_add m j (step s 0) f ∙ ap (λ x. edge_after j (run m (step s 0) []) x) (sym (running_some s.stop (edge_after m (step s 0) f) e q)))
-    go (Stopped h) =
-        edge_none (suc m + j) s e h
-        ∙ sym (ap (λ t. edge_after j t (edge_after (suc m) s e)) (run_none (suc m) s h) ∙ (edge_none j s (edge_after (suc m) s e) h ∙ edge_none (suc m) s e h))
+    go : Stands s → edge_after n (step s 0) f ≡ edge_after j (run m (step s 0) []) (edge_after m (step s 0) f) → edge_after (suc n) s d ≡ edge_after j (run (suc m) s []) (edge_after (suc m) s d)
+    go (StillRuns q) rest =
+        running_some s.stop (edge_after n (step s 0) f) d q ∙ (rest ∙ ap (λ x. edge_after j (run m (step s 0) []) x) (sym (running_some s.stop (edge_after m (step s 0) f) d q)))
+    go (HasStopped h) rest =
+        edge_none (suc n) s d h
+        ∙ sym (ap (λ t. edge_after j t (edge_after (suc m) s d)) (run_none (suc m) s h) ∙ (edge_none j s (edge_after (suc m) s d) h ∙ edge_none (suc m) s d h))
 
-pub edges_add : (m j : ℕ) (s : State) → edges_from (m + j) s ≡ edges_from m s ++ edges_from j (run m s [])
-edges_add zero j s = refl
-edges_add (suc m) j s =
-    ap (λ xs. edge_of s.stop s 0 ++ xs) (edges_add m j (step s 0)) ∙ sym (append_assoc (edge_of s.stop s 0) (edges_from m (step s 0)) (edges_from j (run m (step s 0) [])))
+pub edges_add : (m j n : ℕ) (s : State) → n ≡ m + j → edges_from n s ≡ edges_from m s ++ edges_from j (run m s [])
+edges_add zero j n s e = let same : n ≡ j = omega (arith, e) in ap (λ k. edges_from k s) same
+edges_add (suc m) j zero s e = absurd (omega (arith, e))
+edges_add (suc m) j (suc n) s e =
+    ap (λ xs. edge_of s.stop s 0 ++ xs) (edges_add m j n (step s 0) (omega (arith, e)))
+    ∙ sym (append_assoc (edge_of s.stop s 0) (edges_from m (step s 0)) (edges_from j (run m (step s 0) [])))
 
 -- a run that still runs has run from its beginning
 pub ran_first : (n : ℕ) (s : State) → (run n s []).stop ≡ Running → s.stop ≡ Running
 ran_first n s h = go (stands s)
   where
     go : Stands s → s.stop ≡ Running
-    go (Runs q) = q
-    go (Stopped k) = ap (λ (t : State). t.stop) (sym (run_none n s k)) ∙ h
+    go (StillRuns q) = q
+    go (HasStopped k) = ap (λ (t : State). t.stop) (sym (run_none n s k)) ∙ h

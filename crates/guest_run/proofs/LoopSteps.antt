@@ -32,7 +32,7 @@ pub takes_more : (m n : ℕ) (g k h : GuestView) (edges : List Edge) (a now b : 
 unfolding TakesSteps
 takes_more m n g k h edges a now b more w d =
     let P : ℕ → Type 0 = λ m. TakesSteps m g a (edges ++ edge_list h.edge) h b in
-    subst P (sym more) (record { first = edges; guest = k; now = now; before = w; step = d; edges = refl })
+    subst P (sym more) (record { first = edges; guest = k; now = now; before = w; step = d; whole = refl })
 
 -- ---- the end
 

@@ -1,8 +1,12 @@
 -- The stack with which a guest begins has room.
 use Rattle.std.proofs.Common.{◌≡◌, ℕ, ◌+◌, ◌-◌, ◌*◌, ◌/◌, ◌≤◌, List, [], ◌∷◌, ◌++◌, length, refl, arith, length-append}
 use Rattle.br_word.specs.Memory.{bytes_of, zeros}
-use Rattle.guest_mem.proofs.Numbers.{length-zeros}
+use Rattle.std.proofs.lemmas.List.{length-replicate}
 use Rattle.run_model.specs.Opening.{texts, arguments, text_places, first_text, stack_pointer, stack_words, stack_top, FitArguments}
+
+length-zeros : (n : ℕ) → length (zeros n) ≡ n
+unfolding zeros
+length-zeros n = length-replicate n 0
 
 length-word : (n : ℕ) → length (bytes_of 4 n) ≡ 4
 unfolding bytes_of

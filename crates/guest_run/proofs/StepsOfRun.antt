@@ -16,7 +16,7 @@ use Rattle.guest_run.specs.Guest.{GuestView, first_edge, reads_undefined, asks_n
 use Rattle.guest_run.specs.BoundedRun.{edge_list, TakesSteps, RunStands, RunBreaks, BoundedRun, StepsTold, StepsCome, BreakTold, BreakComes, StepsHold, RunsHold, BreaksHold}
 use Rattle.guest_run.proofs.EarlierBytes.{shown, shown_bare, step_shown, reads_shown, of_shown, ahead_shown}
 use Rattle.guest_run.proofs.StoppedRuns.{running_some, run_none, steps_none, undefined_none, edge_none}
-use Rattle.guest_run.proofs.LongerRuns.{Stands, Runs as AreRunning, Stopped, stands, run_add, steps_add, undefined_add, edge_add, edges_add, edges_none, ran_first}
+use Rattle.guest_run.proofs.LongerRuns.{Stands, StillRuns, HasStopped, stands, run_add, steps_add, undefined_add, edge_add, edges_add, edges_none, ran_first}
 use Rattle.guest_run.proofs.StreamsJoined.{passes_then, steady_of, all_same, all_then, same_passes, fails_later, fails_now, one_now, one_then}
 use Rattle.guest_run.proofs.LoopSteps.{done_live, done_steps, done_bare}
 
@@ -48,7 +48,7 @@ told_none left g a told is =
       state = is;
       undefined = omega arith;
       edge = refl;
-      edges = refl;
+      edges_are = refl;
       more = 0;
       few = omega arith;
       streams = same_passes (fed left g.state) a (subst P (sym told) refl) (ap (λ (s : State). s.out) is) (ap (λ (s : State). s.err) is);
@@ -95,28 +95,27 @@ told_more n s left first g k h a now b w told d =
     let v0 = step u0 0 in
     let done : StepDone u0 0 k h now b = (let P : State → Type 0 = λ x. StepDone x 0 k h now b in subst P at.same d.gives) in
     let one : suc n ≡ n + 1 = omega arith in
-    let last : run (suc n) s [] ≡ shown u.out u.err v0 = ap (λ m. run m s []) one ∙ (run_add n 1 s ∙ (ap (λ x. step x 0) (shown_bare u) ∙ step_shown u.out u.err u0 0)) in
+    let last : run (suc n) s [] ≡ shown u.out u.err v0 = run_add n 1 (suc n) s one ∙ (ap (λ x. step x 0) (shown_bare u) ∙ step_shown u.out u.err u0 0) in
     let reads : reads_undefined u ≡ reads_undefined u0 = ap reads_undefined (shown_bare u) ∙ reads_shown u.out u.err u0 in
     let edge : edge_of u.stop u 0 ≡ edge_of u0.stop u0 0 = ap (λ x. edge_of u.stop x 0) (shown_bare u) ∙ of_shown u.stop u.out u.err u0 0 in
     let its : h.edge ≡ first_edge (edge_of u.stop u 0) = ap (λ (x : GuestView). x.edge) done.guest ∙ ap first_edge (sym edge) in
     let P : State → Type 0 = λ x. Passes x done.more a b in
     record {
-      taken = omega (arith, ap (λ m. steps_taken m s) one, steps_add n 1 s, w.taken, running_some u.stop (1 + 0) 0 at.running);
+      taken = omega (arith, steps_add n 1 (suc n) s one, w.taken, running_some u.stop (1 + 0) 0 at.running);
       state = ap (λ (x : GuestView). x.state) done.guest ∙ ap bare (sym last);
       undefined = omega (
         arith,
         ap (λ (x : GuestView). x.undefined) done.guest,
         w.undefined,
         ap bit reads,
-        ap (λ m. undefined_taken m s) one,
-        undefined_add n 1 s,
+        undefined_add n 1 (suc n) s one,
         running_some u.stop (bit (reads_undefined u) + 0) 0 at.running,
       );
-      edge = its ∙ sym (ap (λ m. edge_after m s g.edge) one ∙ (edge_add n 1 s g.edge ∙ running_some u.stop (first_edge (edge_of u.stop u 0)) (edge_after n s g.edge) at.running));
-      edges =
-          ap (λ es. es ++ edge_list h.edge) w.edges
+      edge = its ∙ sym (edge_add n 1 (suc n) s g.edge one ∙ running_some u.stop (first_edge (edge_of u.stop u 0)) (edge_after n s g.edge) at.running);
+      edges_are =
+          ap (λ es. es ++ edge_list h.edge) w.edges_are
           ∙ (ap (λ x. edges_from n s ++ x) (ap edge_list its ∙ (sym (edge_is u.stop u) ∙ sym (append-nil (edge_of u.stop u 0))))
-          ∙ sym (ap (λ m. edges_from m s) one ∙ edges_add n 1 s));
+          ∙ sym (edges_add n 1 (suc n) s one));
       more = done.more;
       few = omega (
         arith,
@@ -161,7 +160,7 @@ steps_hold zero g h edges a b live is w =
     go (Some left) q = told_none left g a q is
 steps_hold (suc n) g h edges a b live is w =
     let P : List Edge → Type 0 = λ es. StepsCome (suc n) es g h a b in
-    subst P (sym w.edges) (come_more n w.first g w.guest h a w.now b (steps_hold n g w.guest w.first a w.now live is w.before) w.step)
+    subst P (sym w.whole) (come_more n w.first g w.guest h a w.now b (steps_hold n g w.guest w.first a w.now live is w.before) w.step)
 
 -- ---- the next step fails
 
@@ -213,23 +212,25 @@ run_done r n s edges g h a b is steps w = record {
 }
 
 -- a guest that has stopped takes no more steps
-later_told : (m j : ℕ) (r : answer.Stop) (s : State) (edges : List Edge) (g h : GuestView) (a b : Streams) → ((run m s []).stop ≡ Running → ⊥) → r ≡ answer_of h.state.stop → h.steps ≡ g.steps + m
-    → StepsTold m s edges g h a b → RunDone r (m + j) s g h a b × (edges ≡ edges_from (m + j) s)
-later_told m j r s edges g h a b stopped is steps w =
+later_told : (m n : ℕ) (r : answer.Stop) (s : State) (edges : List Edge) (g h : GuestView) (a b : Streams) → m ≤ n → ((run m s []).stop ≡ Running → ⊥) → r ≡ answer_of h.state.stop
+    → h.steps ≡ g.steps + m → StepsTold m s edges g h a b → RunDone r n s g h a b × (edges ≡ edges_from n s)
+later_told m n r s edges g h a b le stopped is steps w =
+    let j = n - m in
+    let all : n ≡ m + j = omega (arith, le) in
     let u = run m s [] in
-    let same : run (m + j) s [] ≡ u = run_add m j s ∙ run_none j u stopped in
+    let same : run n s [] ≡ u = run_add m j n s all ∙ run_none j u stopped in
     let P : State → Type 0 = λ x. Passes x w.more a b in (
       record {
         answer = is ∙ (ap (λ (x : State). answer_of x.stop) w.state ∙ ap (λ (x : State). answer_of x.stop) (sym same));
         state = w.state ∙ ap bare (sym same);
-        steps = omega (arith, steps, w.taken, steps_add m j s, steps_none j u stopped);
-        undefined = omega (arith, w.undefined, undefined_add m j s, undefined_none j u stopped);
-        edge = w.edge ∙ sym (edge_add m j s g.edge ∙ edge_none j u (edge_after m s g.edge) stopped);
+        steps = omega (arith, steps, w.taken, steps_add m j n s all, steps_none j u stopped);
+        undefined = omega (arith, w.undefined, undefined_add m j n s all, undefined_none j u stopped);
+        edge = w.edge ∙ sym (edge_add m j n s g.edge all ∙ edge_none j u (edge_after m s g.edge) stopped);
         more = w.more;
         few = omega (arith, w.few, ap (λ x. while_running s.stop (ahead x) 0) same);
         streams = subst P (sym same) w.streams;
       },
-      w.edges ∙ sym (edges_add m j s ∙ (ap (λ xs. edges_from m s ++ xs) (edges_none j u stopped) ∙ append-nil (edges_from m s))),
+      w.edges_are ∙ sym (edges_add m j n s all ∙ (ap (λ xs. edges_from m s ++ xs) (edges_none j u stopped) ∙ append-nil (edges_from m s))),
     )
 
 run_told : (r : answer.Stop) (n : ℕ) (s : State) (g h : GuestView) (a b : Streams) (w : RunStands r n g h a b) → h.steps ≡ g.steps + w.taken → StepsTold w.taken s w.edges g h a b
@@ -237,14 +238,11 @@ run_told : (r : answer.Stop) (n : ℕ) (s : State) (g h : GuestView) (a b : Stre
 run_told r n s g h a b w steps t = go (stands (run w.taken s []))
   where
     go : Stands (run w.taken s []) → RunDone r n s g h a b × (w.edges ≡ edges_from n s)
-    go (AreRunning q) =
+    go (StillRuns q) =
         let all : w.taken ≡ n = w.all (ap (λ (x : State). x.stop) t.state ∙ q) in
         let P : ℕ → Type 0 = λ n. RunDone r n s g h a b × (w.edges ≡ edges_from n s) in
-        subst P all (run_done r w.taken s w.edges g h a b w.answer steps t, t.edges)
-    go (Stopped k) =
-        let more : w.taken + (n - w.taken) ≡ n = omega (arith, w.most) in
-        let P : ℕ → Type 0 = λ n. RunDone r n s g h a b × (w.edges ≡ edges_from n s) in
-        subst P more (later_told w.taken (n - w.taken) r s w.edges g h a b k w.answer steps t)
+        subst P all (run_done r w.taken s w.edges g h a b w.answer steps t, t.edges_are)
+    go (HasStopped k) = later_told w.taken n r s w.edges g h a b w.most k w.answer steps t
 
 pub runs_hold : RunsHold
 runs_hold r n g h a b live is w = (

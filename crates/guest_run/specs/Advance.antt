@@ -4,8 +4,7 @@ use Rattle.br_word.specs.Words.{bit}
 use Rattle.br_word.specs.State.{State, Running}
 use Rattle.ia_inst.specs.Canonical.{valid_of}
 use Rattle.ia_inst.specs.System.{system}
-use Rattle.ia_inst.specs.Step.{Found, NoCode, NoInst, There, result_at, settled, asked_at}
-use Rattle.ia_meaning.specs.Effect.{some_unmarked}
+use Rattle.ia_inst.specs.Step.{Found, NoCode, NoInst, There, result_at, settled, asked_at, some_unmarked}
 use Rattle.guest_sys.specs.declared.answers.SysError.{SysError}
 use Rattle.br_outside.specs.Streams.{Tells}
 use Rattle.guest_sys.specs.Machine.{Machine, state_of, fed, bare}

@@ -23,7 +23,7 @@ pub record OneMore (Before : List Edge → GuestView → Streams → Type 0) (ed
   pub now : Streams
   pub before : Before first guest now
   pub step : StepCall (Ok true) 0 guest h now after
-  pub edges : edges ≡ first ++ edge_list h.edge
+  pub whole : edges ≡ first ++ edge_list h.edge
 
 -- The guest g takes n steps with the choice 0, none of which fails, and then is h. The edges are those of its steps, in order.
 unfoldable pub TakesSteps : ℕ → GuestView → Streams → List Edge → GuestView → Streams → Type 0
@@ -62,7 +62,7 @@ pub record StepsTold (n : ℕ) (s : State) (edges : List Edge) (g h : GuestView)
   pub state : h.state ≡ bare (run n s [])
   pub undefined : h.undefined ≡ g.undefined + undefined_taken n s
   pub edge : h.edge ≡ edge_after n s g.edge
-  pub edges : edges ≡ edges_from n s
+  pub edges_are : edges ≡ edges_from n s
   pub more : ℕ
   pub few : more ≤ while_running s.stop (ahead (run n s [])) 0
   pub streams : Passes (run n s []) more before after

@@ -4,8 +4,7 @@ use Rattle.br_word.specs.Words.{bit}
 use Rattle.br_word.specs.State.{State, RunState, Running, Exited, Faulted}
 use Rattle.ia_inst.specs.declared.inst.Inst.{Inst}
 use Rattle.ia_inst.specs.declared.inst.Inst.TheVariants.{Int80}
-use Rattle.ia_inst.specs.Step.{Found, NoCode, NoInst, There, found, step, asked_at}
-use Rattle.ia_meaning.specs.Effect.{some_unmarked}
+use Rattle.ia_inst.specs.Step.{Found, NoCode, NoInst, There, found, step, asked_at, some_unmarked}
 use Rattle.br_outside.specs.Outside.{StreamView}
 use Rattle.guest_sys.specs.declared.answers.SysError.{SysError}
 use Rattle.guest_sys.specs.declared.answers.SysError.TheVariants.{Input, Out, Report, Memory}

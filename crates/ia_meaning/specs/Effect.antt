@@ -8,7 +8,6 @@ use Rattle.ia_inst.specs.declared.inst.Inst.{Inst}
 use Rattle.ia_inst.specs.Act.{Changes, Act, Completion, Next, Denied, Divided, Called, perform, flags_after, marks_after}
 use Rattle.ia_inst.specs.Meaning.{wrap, set_if, meaning}
 use Rattle.ia_inst.specs.Step.{next_eip}
-pub use Rattle.ia_inst.specs.Step.{some_unmarked}
 use Rattle.guest_mem.specs.View.{MemoryView}
 use Rattle.ia_meaning.specs.declared.cpu.Cpu.{Cpu}
 use Rattle.ia_meaning.specs.declared.cpu.Outcome.{Outcome}

@@ -6,8 +6,9 @@ ghost use Rattle.ia_inst.specs.Canonical.{valid_of};
 ghost use Rattle.ia_inst.specs.Kinds.{flags_read};
 ghost use Rattle.ia_inst.specs.Act.{perform};
 ghost use Rattle.ia_inst.specs.Meaning.{meaning};
+ghost use Rattle.ia_inst.specs.Step.{some_unmarked};
 ghost use Rattle.ia_inst.specs.declared.inst.Inst.TheVariants as inst;
-ghost use Rattle.ia_meaning.specs.Effect.{view, some_unmarked, Does, Comes};
+ghost use Rattle.ia_meaning.specs.Effect.{view, Does, Comes};
 
 use crate::arithmetic::{alu, dec, inc, neg, not, test};
 use crate::control::{call, call_rm, cmov, jcc, jmp, jmp_rm, nop, ret, setcc};

@@ -5,6 +5,7 @@ use Rattle.br_word.specs.State.{Running}
 use Rattle.br_outside.specs.Streams.{Streams}
 use Rattle.guest_sys.specs.declared.answers.SysError.{SysError}
 use Rattle.guest_sys.specs.declared.answers.SysError.TheVariants as sys
+use Rattle.guest_run.specs.declared.stop.Stop.{Stop}
 use Rattle.guest_run.specs.Guest.{GuestView, StepCall, answer_of}
 use Rattle.guest_run.specs.BoundedRun.{edge_list, TakesSteps, RunStands, RunBreaks}
 use Rattle.trace_file.specs.Edges.{Edge, with_edge, collected}
@@ -40,7 +41,7 @@ taken_none g es a few = record { edges = []; steps = (refl, refl, refl); recorde
 one_more : (n : ℕ) (g k h : GuestView) (edges : List Edge) (a now b : Streams) → TakesSteps n g a edges k now → StepCall (Ok true) 0 k h now b
     → TakesSteps (suc n) g a (edges ++ edge_list h.edge) h b
 unfolding TakesSteps
-one_more n g k h edges a now b w d = record { first = edges; guest = k; now = now; before = w; step = d; edges = refl }
+one_more n g k h edges a now b w d = record { first = edges; guest = k; now = now; before = w; step = d; whole = refl }
 
 -- the edges with that of one more step
 more_is : (o : Option Edge) (edges es : List Edge) → with_step o (collected edges es) ≡ collected (edges ++ edge_list o) es
@@ -176,10 +177,21 @@ unfolding TakesSteps
 wants_first n g es a few = inr (record { taken = 0; most = omega arith; edges = []; guest = g; steps = (refl, refl, refl); few = few })
 
 -- the trace of all steps
-pub traced_after : (n : ℕ) (g h : GuestView) (es hs : List Edge) (a b : Streams) → Recorded n g h es hs a b → TracedRun (Ok (traced h hs)) n g es a b
+traced_after : (n : ℕ) (g h : GuestView) (es hs : List Edge) (a b : Streams) → Recorded n g h es hs a b → TracedRun (Ok (traced h hs)) n g es a b
 traced_after n g h es hs a b w = record {
   guest = h;
   run = w.run;
   few = few_as hs (collected w.run.edges es) w.edges w.few;
   answer = ap (λ xs. traced h xs) w.edges;
 }
+
+-- the same by its parts
+pub traced_by : (n : ℕ) (g h : GuestView) (es hs is : List Edge) (stop : Stop) (steps undefined : ℕ) (a b : Streams) → is ≡ hs → stop ≡ answer_of h.state.stop → steps ≡ h.steps
+    → undefined ≡ h.undefined → Recorded n g h es hs a b → TracedRun (Ok (record { edges = is; stop = stop; steps = steps; undefined = undefined })) n g es a b
+traced_by n g h es hs is stop steps undefined a b same stands taken read w =
+    let f : List Edge → Stop → ℕ → ℕ → Traced = λ x y z u. record { edges = x; stop = y; steps = z; undefined = u } in
+    let e : f is stop steps undefined ≡ traced h hs =
+        ap (λ x. f x stop steps undefined) same ∙ (ap (λ y. f hs y steps undefined) stands
+        ∙ (ap (λ z. f hs (answer_of h.state.stop) z undefined) taken ∙ ap (λ u. f hs (answer_of h.state.stop) h.steps u) read)) in
+    let P : Traced → Type 0 = λ t. TracedRun (Ok t) n g es a b in
+    subst P (sym e) (traced_after n g h es hs a b w)

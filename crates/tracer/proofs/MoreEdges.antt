@@ -31,20 +31,22 @@ grows : (xs es : List Edge) → length es ≤ length (collected xs es)
 grows [] es = omega arith
 grows (x ∷ xs) es = omega (arith, edge_grows x es, grows xs (with_edge x es))
 
-edges_add : (m j : ℕ) (s : State) → edges_from (m + j) s ≡ edges_from m s ++ edges_from j (run m s [])
-edges_add zero j s = refl
-edges_add (suc m) j s =
-    ap (λ xs. edge_of s.stop s 0 ++ xs) (edges_add m j (step s 0)) ∙ sym (append_assoc (edge_of s.stop s 0) (edges_from m (step s 0)) (edges_from j (run m (step s 0) [])))
+edges_add : (m j n : ℕ) (s : State) → n ≡ m + j → edges_from n s ≡ edges_from m s ++ edges_from j (run m s [])
+edges_add zero j n s e = let same : n ≡ j = omega (arith, e) in ap (λ k. edges_from k s) same
+edges_add (suc m) j zero s e = absurd (omega (arith, e))
+edges_add (suc m) j (suc n) s e =
+    ap (λ xs. edge_of s.stop s 0 ++ xs) (edges_add m j n (step s 0) (omega (arith, e)))
+    ∙ sym (append_assoc (edge_of s.stop s 0) (edges_from m (step s 0)) (edges_from j (run m (step s 0) [])))
 
 -- fewer steps have no more edges
 pub fewer_edges : (k n : ℕ) (s : State) (es : List Edge) → k ≤ n → length (collected (edges_from k s) es) ≤ length (collected (edges_from n s) es)
 fewer_edges k n s es le =
     let j = n - k in
-    let all : k + j ≡ n = omega (arith, le) in
+    let all : n ≡ k + j = omega (arith, le) in
     let rest = edges_from j (run k s []) in
     omega (
       arith,
       grows rest (collected (edges_from k s) es),
       ap length (collected_append (edges_from k s) rest es),
-      ap (λ xs. length (collected xs es)) (sym (edges_add k j s) ∙ ap (λ m. edges_from m s) all),
+      ap (λ xs. length (collected xs es)) (edges_add k j n s all),
     )

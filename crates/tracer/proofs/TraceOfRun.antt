@@ -82,7 +82,7 @@ told_full n exe s taken first edges g k h a now b less is few passed d = record 
   taken = suc taken;
   most = omega (arith, less);
   within = λ j l. few_before taken exe s first is few j (omega (arith, l));
-  passed = omega (arith, passed, ap (λ xs. length (collected xs (entry_set exe))) d.edges);
+  passed = omega (arith, passed, ap (λ xs. length (collected xs (entry_set exe))) d.edges_are);
   more = d.more;
   few = few_ahead (suc taken) s d.more d.few;
   streams = d.streams;
@@ -110,7 +110,7 @@ told_wanted : (n taken : ℕ) (exe : Exe) (s : State) (edges : List Edge) (g h :
 told_wanted n taken exe s edges g h a b most few d = record {
   done = taken;
   most = most;
-  within = few_before taken exe s edges d.edges few;
+  within = few_before taken exe s edges d.edges_are few;
   streams = wants_at (run taken s []) (step (run taken s []) 0) d.more a b (few_ahead taken s d.more d.few) d.streams;
 }
 
@@ -146,7 +146,7 @@ gives_full law n exe words a b w =
     let edges = w.edges ++ edge_list w.guest.edge in
     let before : StepsCome w.taken w.edges g w.last a w.now = law w.taken g w.last w.edges a w.now refl refl w.steps in
     let come : StepsCome (suc w.taken) edges g w.guest a b =
-        law (suc w.taken) g w.guest edges a b refl refl (record { first = w.edges; guest = w.last; now = w.now; before = w.steps; step = w.step; edges = refl }) in
+        law (suc w.taken) g w.guest edges a b refl refl (record { first = w.edges; guest = w.last; now = w.now; before = w.steps; step = w.step; whole = refl }) in
     let many : EDGE_LIMIT < length (collected edges es) = omega (
       arith,
       w.passed,
@@ -154,7 +154,7 @@ gives_full law n exe words a b w =
     ) in (
       come.streams,
       both_told a.input.bytes (λ left. StepsTold w.taken (begun exe words left) w.edges g w.last a w.now) (λ left. StepsTold (suc w.taken) (begun exe words left) edges g w.guest a b) _
-      (λ left p q. told_full n exe (begun exe words left) w.taken w.edges edges g w.last w.guest a w.now b w.within p.edges w.few many q) before.told come.told,
+      (λ left p q. told_full n exe (begun exe words left) w.taken w.edges edges g w.last w.guest a w.now b w.within p.edges_are w.few many q) before.told come.told,
     )
 
 faults_as : (e : SysError) (a b : Streams) → OneFails e a b → Faults (Err (error_of e)) a b
@@ -171,7 +171,7 @@ gives_failed law breaks e n exe words a b w =
     let come : BreakComes e w.run.taken g w.guest a b = breaks e w.run.taken g w.run.last w.guest w.run.edges a w.run.now b refl refl w.run.steps w.run.failed in (
       faults_as e a b come.streams,
       both_told a.input.bytes (λ left. StepsTold w.run.taken (begun exe words left) w.run.edges g w.run.last a w.run.now) (λ left. BreakTold e w.run.taken (begun exe words left) w.guest a b) _
-      (λ left p q. told_failed e n w.run.taken exe (begun exe words left) w.run.edges w.guest a b w.run.within p.edges w.few q) before.told come.told,
+      (λ left p q. told_failed e n w.run.taken exe (begun exe words left) w.run.edges w.guest a b w.run.within p.edges_are w.few q) before.told come.told,
     )
 
 gives_wanted : StepsHold → (n : ℕ) (exe : Exe) (words : List (List ℕ)) (a b : Streams) → TraceWants n (beginning exe words) (entry_set exe) a b → Gives (Err errors.Memory) n exe words a b

@@ -1,7 +1,7 @@
 use Rattle.std.proofs.Common.{ℕ, List, [], ◌∷◌, map, string_bytes}
 use Rattle.elf_read.proofs.Accepted.{original_is_guest}
 use Rattle.guest_run.specs.Guest.{beginning}
-use Rattle.tracer.specs.Tour.{entry_edge}
+use Rattle.tracer.specs.TracedRun.{entry_edge}
 use Rattle.top_plan.specs.World.{world}
 use Rattle.top_plan.specs.Plan.{Plan}
 use Rattle.binrec.specs.Tours.{tour_plan}

@@ -13,7 +13,7 @@ use Rattle.br_outside.specs.declared.errors.SinkError.TheVariants as sink_errors
 use Rattle.guest_sys.specs.Machine.{machine}
 use Rattle.guest_sys.specs.Calls.{after_call, Unwritten, Calls}
 use Rattle.guest_sys.specs.Parts.{WritesBuffer}
-use Rattle.guest_sys.proofs.Done.{begin, had, told_had, leaves_same, gains_none, unwritten_same, calls_by, quiet, answers_as}
+use Rattle.guest_sys.proofs.DoneCalls.{begin, had, told_had, leaves_same, gains_none, unwritten_same, calls_by, quiet, answers_as}
 
 -- the states after a write of some bytes
 abbrev wrote_out : Cpu → MemoryView → List ℕ → List ℕ → State

@@ -5,7 +5,7 @@ use Rattle.br_word.specs.Memory.{Region, Reads, Writes, bytes_at, written}
 use Rattle.ia_inst.specs.System.{buffer, filled}
 use Rattle.guest_mem.specs.View.{MemoryView}
 use Rattle.guest_sys.specs.Parts.{IsWanted, Puts}
-use Rattle.guest_sys.proofs.Access.{denied_more, written_none}
+use Rattle.guest_sys.proofs.BufferAccess.{denied_more, written_none}
 
 pub none_is : {A : Type 0} (o : Option A) → is_some o ≡ false → o ≡ None
 none_is None h = refl

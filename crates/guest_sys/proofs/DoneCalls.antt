@@ -18,9 +18,9 @@ use Rattle.br_outside.specs.Streams.{Tells, Leaves, Gains}
 use Rattle.guest_sys.specs.Machine.{Machine, machine, state_of, fed, bare}
 use Rattle.guest_sys.specs.Calls.{asks, takes_memory, after_call, answer_of, Unwritten, CallGives, Calls}
 use Rattle.guest_sys.specs.Parts.{IsWanted, Takes, with_eax}
-use Rattle.guest_sys.proofs.Access.{denied_more, written_none, none_written}
-use Rattle.guest_sys.proofs.Puts.{filled_some}
-use Rattle.guest_sys.proofs.Taken.{steady_same}
+use Rattle.guest_sys.proofs.BufferAccess.{denied_more, written_none, none_written}
+use Rattle.guest_sys.proofs.PutBytes.{filled_some}
+use Rattle.guest_sys.proofs.TakenBytes.{steady_same}
 
 -- the state in which a call begins
 abbrev pub begin : Cpu → MemoryView → List ℕ → State
