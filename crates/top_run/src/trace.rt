@@ -4,7 +4,7 @@ ghost use Rattle.elf_read.specs.Elf.{IsGuest};
 ghost use Rattle.br_outside.specs.Outside.{ShelfView};
 ghost use Rattle.guest_run.specs.Guest.{beginning, stop_of};
 ghost use Rattle.run_model.specs.Opening.{FitArguments};
-ghost use Rattle.tracer.specs.Tour.{entry_edge};
+ghost use Rattle.tracer.specs.TracedRun.{entry_edge};
 ghost use Rattle.top_plan.specs.World.{World, on_shelf, world};
 ghost use Rattle.top_plan.specs.Plan.{Went};
 ghost use Rattle.top_plan.specs.Parts.{Goes, Checks};
