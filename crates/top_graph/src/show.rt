@@ -3,7 +3,7 @@ ghost use Rattle.std.specs.Prelude.{◌≤◌, ◌<◌, ◌+◌, ◌^◌, Ok, If
 ghost use Rattle.elf_read.specs.Elf.{IsGuest};
 ghost use Rattle.br_outside.specs.Outside.{StreamView};
 ghost use Rattle.trace_file.specs.Edges.{pairs, union_of};
-ghost use Rattle.flow_graph.specs.Graph.{AreCode};
+ghost use Rattle.flow_graph.specs.Graph.{AreCode, AreCutsOf};
 ghost use Rattle.flow_graph.specs.GraphOf.{graph_of};
 ghost use Rattle.top_plan.specs.World.{World, on_out, world};
 ghost use Rattle.top_plan.specs.Plan.{Went};
@@ -14,7 +14,7 @@ ghost use Rattle.top_plan.specs.Texts.{end_of};
 use br_outside::{Shelf, Sink};
 use elf_read::Exe;
 use flow_graph::{Graph, GraphError, MAX_BLOCKS, one_graph};
-use show_text::show_block;
+use show_text::show_cut_block;
 use std::alloc::Global;
 use top_files::{fetch_subject, fetch_traces};
 use top_plan::{Cause, Finish, Halt, Limit, Outcome, print_text};
@@ -27,6 +27,7 @@ fn graph_of(alloc: Global, exe: &Exe, traces: Vec<Edges>) -> Result<Graph, Halt>
     requires few { pairs traces.items ≤ EDGE_LIMIT }
     ensures graph { Checks (λ g. g.nodes) result (limited_graph (graph_of exe.now (union_of traces.items))) }
     ensures code { IfOk result (λ g. AreCode exe.now g.nodes) }
+    ensures cuts { IfOk result (AreCutsOf exe.now) }
 {
     one_graph();
     let Ok(edges) = union_all(alloc, traces.as_slice()) else {
@@ -43,14 +44,17 @@ fn graph_of(alloc: Global, exe: &Exe, traces: Vec<Edges>) -> Result<Graph, Halt>
 fn listing_of(alloc: Global, exe: &Exe, graph: &Graph) -> Result<String, Halt>
     requires guest { IsGuest exe.now }
     requires code { AreCode exe.now graph.now.nodes }
+    requires cuts { AreCutsOf exe.now graph.now }
     ensures { Checks string_bytes result (Ok (listing exe.now graph.now.nodes)) }
 {
     let mut text = String::new(alloc);
     for index in 0..graph.len() {
-        if show_block(
+        let block = graph.cut(index);
+        if show_cut_block(
             alloc,
             exe,
             graph.start(index),
+            &block,
             graph.known(index),
             &mut text,
         )
@@ -83,6 +87,7 @@ fn print_graph<O: Sink>(
 ) -> Result<Outcome, Halt>
     requires guest { IsGuest exe.now }
     requires code { AreCode exe.now graph.now.nodes }
+    requires cuts { AreCutsOf exe.now graph.now }
     ensures { (w : World) → Went (listing_part exe.now graph.now.nodes)
         (on_out w (O.seen out.old)) (end_of result) (on_out w (O.seen out.new)) }
 {
