@@ -1,6 +1,5 @@
 -- A traced run over any objects: a guest takes steps, and the edge of each is recorded.
 use Rattle.std.specs.Prelude.{◌≡◌, ◌⊎◌, ◌<◌, ◌≤◌, ℕ, true, List, length, Option, Some, None, Result, Ok, Err}
-use Rattle.br_word.specs.State.{Running}
 use Rattle.elf_read.specs.declared.exe.Exe.{Exe}
 use Rattle.br_outside.specs.Streams.{Streams}
 use Rattle.guest_sys.specs.declared.answers.SysError.{SysError}

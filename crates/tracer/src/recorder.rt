@@ -20,7 +20,7 @@ pub struct Recorder {
 impl Model for Recorder {
     ghost use Rattle.std.specs.Prelude.{List, ◌≤◌, length};
     ghost use Rattle.trace_file.specs.Edges.{Edge};
-    
+
     ghost Value = { List Edge };
 
     ghost view = { λ r. r.edges.keys };
