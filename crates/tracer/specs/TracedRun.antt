@@ -25,6 +25,7 @@ with_step (Some e) es = with_edge e es
 abbrev pub traced : GuestView → List Edge → Traced
 traced g es = record { edges = es; stop = answer_of g.state.stop; steps = g.steps; undefined = g.undefined }
 
+-- why a run was not traced, where a step failed
 abbrev pub error_of : SysError → TracingError
 error_of sys.Input = errors.Input
 error_of sys.Out = errors.Out
@@ -94,6 +95,7 @@ pub record Recorded (n : ℕ) (g h : GuestView) (es hs : List Edge) (before afte
   pub edges : hs ≡ collected run.edges es
   pub few : AreFew hs
 
+-- what a guest that is followed comes to
 abbrev pub Follows : Result (Unit {0}) TracingError → ℕ → GuestView → GuestView → List Edge → List Edge → Streams → Streams → Type 0
 Follows (Ok _) n g h es hs before after = Recorded n g h es hs before after
 Follows (Err e) n g h es hs before after = TracedRun (Err e) n g es before after
