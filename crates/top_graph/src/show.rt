@@ -1,5 +1,5 @@
 //! `show E T..`: the listing of the blocks that traces have seen.
-ghost use Rattle.std.specs.Prelude.{◌≤◌, Ok, IfOk, length, map, string_bytes};
+ghost use Rattle.std.specs.Prelude.{◌≤◌, ◌<◌, ◌+◌, ◌^◌, Ok, IfOk, length, map, string_bytes};
 ghost use Rattle.elf_read.specs.Elf.{IsGuest};
 ghost use Rattle.br_outside.specs.Outside.{StreamView};
 ghost use Rattle.trace_file.specs.Edges.{pairs, union_of};
@@ -18,7 +18,7 @@ use show_text::show_block;
 use std::alloc::Global;
 use top_files::{fetch_subject, fetch_traces};
 use top_plan::{Cause, Finish, Halt, Limit, Outcome, print_text};
-use trace_file::{Edges, union_all};
+use trace_file::{EDGE_LIMIT, Edges, union_all};
 
 /// The most blocks of a graph.
 const BLOCK_LIMIT: u32 = 65536;
@@ -27,7 +27,7 @@ const BLOCK_LIMIT: u32 = 65536;
 /// memory.
 fn graph_of(alloc: Global, exe: &Exe, traces: Vec<Edges>) -> Result<Graph, Halt>
     requires guest { IsGuest exe.now }
-    requires few { pairs traces.items ≤ 16777216 }
+    requires few { pairs traces.items ≤ EDGE_LIMIT }
     ensures graph { Checks (λ g. g) result (limited_graph (graph_of exe.now (union_of traces.items))) }
     ensures code { IfOk result (AreCode exe.now) }
 {
@@ -111,7 +111,7 @@ pub fn show_command<F: Shelf, O: Sink>(
     original: &str,
     names: &[String],
 ) -> Result<Outcome, Halt>
-    requires { length names.now ≤ 4096 }
+    requires { 2 + length names.now < 2 ^ 32 }
     ensures { (i r : StreamView) → Went (show_plan original.now (map string_bytes names.now))
         (world (F.seen shelf.old) i (O.seen out.old) r) (end_of result) (world (F.seen shelf.new) i (O.seen out.new) r) }
 {

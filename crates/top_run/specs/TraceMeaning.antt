@@ -1,5 +1,7 @@
 -- What `trace` does, in a user's words.
 use Rattle.std.specs.Prelude.{◌≡◌, ◌<◌, ◌≤◌, ◌+◌, ℕ, List, [], length, Option, Some, None, Result, Ok, Err}
+use Rattle.elf_read.specs.declared.limits.TheConstants.{ORIGINAL_FILE_LIMIT}
+use Rattle.trace_file.specs.declared.limits.TheConstants.{FILE_EDGE_LIMIT}
 use Rattle.br_outside.specs.Files.{Files, put}
 use Rattle.elf_read.specs.Elf.{elf, Refused}
 use Rattle.elf_read.specs.declared.exe.Exe.{Exe}
@@ -37,7 +39,7 @@ pub record HasTraced (target digest : List ℕ) (n : ℕ) (exe : Exe) (start : S
 pub record HasFilled (k : ℕ) (start : State) (s : World) (result : ℕ) (t : World) : Type 0 where
   pub status : result ≡ 7
   pub shelf : Unstored s t
-  pub shown : HasShown (run k start []) (cause_text (Limited (limits.Union 2000000))) s t
+  pub shown : HasShown (run k start []) (cause_text (Limited (limits.Union FILE_EDGE_LIMIT))) s t
 
 -- the edges of the first steps are not too many before the k-th
 abbrev pub FewBefore : ℕ → Exe → State → Type 0
@@ -59,7 +61,7 @@ TracesRead target n args word left content (Err refused) files s result t = IsRe
 abbrev pub TracesContent : List ℕ → ℕ → List (List ℕ) → ℕ → List ℕ → Option (List ℕ) → Files → World → ℕ → World → Type 0
 TracesContent target n args word left None files s result t = IsAbsent s result t
 TracesContent target n args word left (Some content) files s result t =
-    UnlessLong 16777216 content (TracesRead target n args word left content (elf Original content) files s result t) s result t
+    UnlessLong ORIGINAL_FILE_LIMIT content (TracesRead target n args word left content (elf Original content) files s result t) s result t
 
 -- What `trace` does over a shelf and an input that tell, unless memory is wanting or an object fails: `word` is the position of
 -- the word of the original.

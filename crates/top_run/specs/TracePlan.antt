@@ -1,5 +1,6 @@
 -- A traced run as turns, its last line, and the plan of `trace`.
 use Rattle.std.specs.Prelude.{ℕ, zero, suc, ◌++◌, List, length, nat_le, cond, codes, Some, Err, ◌+◌, [], ◌∷◌, Ok}
+use Rattle.trace_file.specs.declared.limits.TheConstants.{FILE_EDGE_LIMIT}
 use Rattle.std.specs.Fmt.{decimal}
 use Rattle.br_word.specs.State.{RunState}
 use Rattle.guest_run.specs.Guest.{GuestView, while_running, stop_of, beginning}
@@ -34,7 +35,7 @@ traced_as t = record {
 
 -- the guest has these edges, unless they are too many
 abbrev pub unless_full : (List Edge → Plan) → List Edge → Plan
-unless_full next es = cond (nat_le (length es) EDGE_LIMIT) (next es) (Ends (Err (Limited (limits.Union 2000000))))
+unless_full next es = cond (nat_le (length es) EDGE_LIMIT) (next es) (Ends (Err (Limited (limits.Union FILE_EDGE_LIMIT))))
 
 -- a guest that has recorded these edges takes at most n steps, as long as it runs
 unfoldable pub tour_plan : (Traced → Plan) → ℕ → GuestView → List Edge → Plan
@@ -48,7 +49,7 @@ abbrev pub halt_of_tracing : TracingError → Halt
 halt_of_tracing errors.Input = Outside objects.Input
 halt_of_tracing errors.Out = Outside objects.Output
 halt_of_tracing errors.Report = Outside objects.Report
-halt_of_tracing errors.Union = Because (Limited (limits.Union 2000000))
+halt_of_tracing errors.Union = Because (Limited (limits.Union FILE_EDGE_LIMIT))
 halt_of_tracing errors.Memory = Memory
 
 -- a traced run is stored as a trace of the original with this digest

@@ -15,11 +15,12 @@ use crate::lines::{finish_of, traced_line};
 use br_outside::{Shelf, Sink, Source};
 use elf_read::Exe;
 use std::alloc::Global;
-use top_files::{UNION_LIMIT, fetch_subject, store_trace};
+use top_files::{fetch_subject, store_trace};
 use top_plan::{Cause, Halt, Limit, Object, Outcome};
+use trace_file::FILE_EDGE_LIMIT;
 use tracer::{Traced, TracingError, trace};
 
-/// The stop of the work where a run was not traced to its end.
+/// How the work ends where a run was not traced to its end.
 fn halt_of_tracing(error: TracingError) -> Halt
     ensures { result ≡ halt_of_tracing error }
 {
@@ -27,7 +28,7 @@ fn halt_of_tracing(error: TracingError) -> Halt
         TracingError::Input => Halt::Outside(Object::Input),
         TracingError::Out => Halt::Outside(Object::Output),
         TracingError::Report => Halt::Outside(Object::Report),
-        TracingError::Union => Halt::Because(Cause::Limited(Limit::Union(UNION_LIMIT))),
+        TracingError::Union => Halt::Because(Cause::Limited(Limit::Union(FILE_EDGE_LIMIT))),
         TracingError::Memory => Halt::Memory,
     }
 }
@@ -49,7 +50,7 @@ fn trace_guest<I: Source, O: Sink, R: Sink>(
         (λ last. tour_plan last steps (beginning exe.now (map string_bytes args.now)) (entry_edge exe.now ∷ []))
         (world v (I.seen input.old) (O.seen out.old) (R.seen report.old)) result
         (world v (I.seen input.new) (O.seen out.new) (R.seen report.new)) }
-    ensures few { IfOk result (λ t. length t.edges ≤ UNION_LIMIT) }
+    ensures few { IfOk result (λ t. length t.edges ≤ FILE_EDGE_LIMIT) }
 {
     match trace(alloc, exe, args, steps, input, out, report) {
         Ok(traced) => Ok(traced),
@@ -79,7 +80,7 @@ fn store_traced<F: Shelf>(
     traced: &Traced,
     digest: &[u8; 32],
 ) -> Result<Outcome, Halt>
-    requires { length traced.now.edges ≤ UNION_LIMIT }
+    requires { length traced.now.edges ≤ FILE_EDGE_LIMIT }
     ensures { (w : World) → Went (traced_part target.now digest.now traced.now)
         (on_shelf w (F.seen shelf.old)) (end_of result) (on_shelf w (F.seen shelf.new)) }
 {
