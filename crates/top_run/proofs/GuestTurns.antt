@@ -15,7 +15,7 @@ use Rattle.trace_file.specs.Edges.{Edge}
 use Rattle.top_files.specs.OriginalPart.{of_word, with_digest}
 use Rattle.tracer.specs.declared.answers.Traced.{Traced}
 use Rattle.tracer.specs.TracedRun.{traced, with_step, entry_edge}
-use Rattle.tracer.specs.declared.recorder.TheConstants.{EDGE_LIMIT}
+use Rattle.trace_file.specs.declared.limits.TheConstants.{FILE_EDGE_LIMIT}
 use Rattle.top_run.specs.TracePlan.{tour_plan, unless_full, traced_part, trace_plan}
 use Rattle.top_run.proofs.GuestRuns.{has_stopped}
 use Rattle.top_run.proofs.InputUsed.{guest_uses}
@@ -68,8 +68,8 @@ tour_turns P last (suc n) g es each quiet ends =
     let now : List ℕ → List Edge = λ left. with_step (next_guest g left).edge es in
     while_turns P g.state.stop (Turns (next_turn g) (λ left. unless_full (tour_plan last n (next_guest g left)) (now left))) (last (traced g es))
     (λ running left. (
-      unless_too_many (λ p. AllTurns P p) (nat_le (length (now left)) EDGE_LIMIT) _ _ (tour_turns P last n (next_guest g left) (now left) each quiet ends) tt,
-      each g left _ running (λ not. unless_too_many (λ p. NoInput p) (nat_le (length (now left)) EDGE_LIMIT) _ _ (tour_quiet last n (next_guest g left) (now left) quiet not) tt),
+      unless_too_many (λ p. AllTurns P p) (nat_le (length (now left)) FILE_EDGE_LIMIT) _ _ (tour_turns P last n (next_guest g left) (now left) each quiet ends) tt,
+      each g left _ running (λ not. unless_too_many (λ p. NoInput p) (nat_le (length (now left)) FILE_EDGE_LIMIT) _ _ (tour_quiet last n (next_guest g left) (now left) quiet not) tt),
     ))
     (ends (traced g es))
 

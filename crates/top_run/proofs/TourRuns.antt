@@ -15,7 +15,7 @@ use Rattle.tracer.specs.declared.answers.TracingError.TheVariants as errors
 use Rattle.tracer.specs.TracedRun.{traced, with_step, error_of, TraceStands, TracePasses, TraceBreaks, TraceWants, TracedRun}
 use Rattle.guest_run.specs.BoundedRun.{edge_list, TakesSteps}
 use Rattle.top_run.proofs.EdgesOfSteps.{collected_append, collected_one, grows}
-use Rattle.tracer.specs.declared.recorder.TheConstants.{EDGE_LIMIT}
+use Rattle.trace_file.specs.declared.limits.TheConstants.{FILE_EDGE_LIMIT}
 use Rattle.top_plan.specs.World.{World}
 use Rattle.top_plan.specs.Texts.{WorkEnd}
 use Rattle.top_plan.specs.Plan.{Plan, Ends, Turns, Went}
@@ -47,11 +47,11 @@ unfolding tour_plan
 has_stopped last zero g es not = refl
 has_stopped last (suc n) g es not = stopped_plan g.state.stop _ _ not
 
-pub has_room : (next : List Edge → Plan) (es : List Edge) → length es ≤ EDGE_LIMIT → unless_full next es ≡ next es
-has_room next es few = ap (λ b. cond b (next es) (Ends (Err (Limited (limits.Union 2000000))))) (le-leb (length es) EDGE_LIMIT few)
+pub has_room : (next : List Edge → Plan) (es : List Edge) → length es ≤ FILE_EDGE_LIMIT → unless_full next es ≡ next es
+has_room next es few = ap (λ b. cond b (next es) (Ends (Err (Limited (limits.Union 2000000))))) (le-leb (length es) FILE_EDGE_LIMIT few)
 
-pub is_full : (next : List Edge → Plan) (es : List Edge) → EDGE_LIMIT < length es → unless_full next es ≡ Ends (Err (Limited (limits.Union 2000000)))
-is_full next es many = ap (λ b. cond b (next es) (Ends (Err (Limited (limits.Union 2000000))))) (lt-leb (length es) EDGE_LIMIT many)
+pub is_full : (next : List Edge → Plan) (es : List Edge) → FILE_EDGE_LIMIT < length es → unless_full next es ≡ Ends (Err (Limited (limits.Union 2000000)))
+is_full next es many = ap (λ b. cond b (next es) (Ends (Err (Limited (limits.Union 2000000))))) (lt-leb (length es) FILE_EDGE_LIMIT many)
 
 -- ---- what follows a traced run
 
@@ -91,7 +91,7 @@ stepped_on last n g h es v before after o u a went =
 
 -- what follows k of n steps follows a run of the plan
 taken_on : (last : Traced → Plan) (k m n : ℕ) (g h : GuestView) (es edges : List Edge) (v : ShelfView) (before after : Streams) (o : WorkEnd) (u : World) → n ≡ k + m → TakesSteps k g before edges h after
-    → length (collected edges es) ≤ EDGE_LIMIT → Went (tour_plan last m h (collected edges es)) (with_streams v after) o u → Went (tour_plan last n g es) (with_streams v before) o u
+    → length (collected edges es) ≤ FILE_EDGE_LIMIT → Went (tour_plan last m h (collected edges es)) (with_streams v after) o u → Went (tour_plan last n g es) (with_streams v before) o u
 unfolding TakesSteps
 taken_on last zero m n g h es edges v before after o u all w few went =
     let same : n ≡ m = omega (arith, all) in
@@ -104,8 +104,8 @@ taken_on last (suc k) m n g h es edges v before after o u all w few went =
     let first = collected w.first es in
     let same : collected edges es ≡ with_step h.edge first =
     ap (λ xs. collected xs es) w.whole ∙ (collected_append w.first (edge_list h.edge) es ∙ collected_one h.edge first) in
-    let fit : length (with_step h.edge first) ≤ EDGE_LIMIT = omega (arith, few, ap length same) in
-    let before_fit : length first ≤ EDGE_LIMIT = omega (arith, fit, grows (edge_list h.edge) first, ap length (collected_one h.edge first)) in
+    let fit : length (with_step h.edge first) ≤ FILE_EDGE_LIMIT = omega (arith, few, ap length same) in
+    let before_fit : length first ≤ FILE_EDGE_LIMIT = omega (arith, fit, grows (edge_list h.edge) first, ap length (collected_one h.edge first)) in
     let P : List Edge → Type 0 = λ xs. Went (tour_plan last m h xs) (with_streams v after) o u in
     taken_on last k (suc m) n g w.guest es w.first v before w.now o u (omega (arith, all)) w.before before_fit
     (stepped_on last m w.guest h first v w.now after o u w.step (same_plan _ _ _ o u (has_room (tour_plan last m h) (with_step h.edge first) fit) (subst P same went)))

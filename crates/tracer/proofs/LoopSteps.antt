@@ -11,7 +11,7 @@ use Rattle.trace_file.specs.Edges.{Edge, collected}
 use Rattle.tracer.specs.declared.answers.Traced.{Traced}
 use Rattle.tracer.specs.declared.answers.TracingError.{TracingError}
 use Rattle.tracer.specs.declared.answers.TracingError.TheVariants as errors
-use Rattle.tracer.specs.declared.recorder.TheConstants.{EDGE_LIMIT}
+use Rattle.trace_file.specs.declared.limits.TheConstants.{FILE_EDGE_LIMIT}
 use Rattle.tracer.specs.Records.{Records}
 use Rattle.tracer.specs.TracedRun.{with_step, traced, error_of, AreFew, TraceBreaks, TracedRun, Recorded, Follows}
 use Rattle.tracer.proofs.MoreEdges.{collected_append, collected_one}
@@ -113,8 +113,8 @@ step_fails e m n g k h es hs a now b less w d = by_error e n g es a b (record {
 pub edge_fails : (x : TracingError) (e : Edge) (m n : ℕ) (g k h : GuestView) (es hs is : List Edge) (a now b : Streams) → m < n → AreTaken m g k es hs a now → StepCall (Ok true) 0 k h now b
     → h.edge ≡ Some e → Records (Err x) e hs is → TracedRun (Err x) n g es a b
 edge_fails errors.Union e m n g k h es hs is a now b less w d some r =
-    let P : Option Edge → Type 0 = λ o. EDGE_LIMIT < length (with_step o hs) in
-    let Q : List Edge → Type 0 = λ hs. EDGE_LIMIT < length (with_step h.edge hs) in
+    let P : Option Edge → Type 0 = λ o. FILE_EDGE_LIMIT < length (with_step o hs) in
+    let Q : List Edge → Type 0 = λ hs. FILE_EDGE_LIMIT < length (with_step h.edge hs) in
     record {
       taken = m;
       within = less;

@@ -17,7 +17,7 @@ use Rattle.trace_file.specs.Edges.{Edge, collected}
 use Rattle.tracer.specs.declared.answers.Traced.{Traced}
 use Rattle.tracer.specs.declared.answers.TracingError.{TracingError}
 use Rattle.tracer.specs.declared.answers.TracingError.TheVariants as errors
-use Rattle.tracer.specs.declared.recorder.TheConstants.{EDGE_LIMIT}
+use Rattle.trace_file.specs.declared.limits.TheConstants.{FILE_EDGE_LIMIT}
 use Rattle.tracer.specs.TracedRun.{entry_edge, traced, error_of, AreFew, TraceStands, TracePasses, TraceBreaks, TraceWants, TracedRun, Faults}
 use Rattle.tracer.specs.TraceTold.{edges_in, TraceDone, TraceFull, TraceWanted, TraceGives}
 use Rattle.tracer.proofs.MoreEdges.{collected_append, collected_one, fewer_edges}
@@ -75,7 +75,7 @@ told_done n exe s t g h edges a b steps undefined is few same d = record {
 -- ---- the limit was passed
 
 told_full : (n : ℕ) (exe : Exe) (s : State) (taken : ℕ) (first edges : List Edge) (g k h : GuestView) (a now b : Streams) → taken < n → first ≡ edges_from taken s
-    → AreFew (collected first (entry_set exe)) → EDGE_LIMIT < length (collected edges (entry_set exe)) → StepsTold (suc taken) s edges g h a b → TraceFull n exe s a b
+    → AreFew (collected first (entry_set exe)) → FILE_EDGE_LIMIT < length (collected edges (entry_set exe)) → StepsTold (suc taken) s edges g h a b → TraceFull n exe s a b
 told_full n exe s taken first edges g k h a now b less is few passed d = record {
   taken = suc taken;
   most = omega (arith, less);
@@ -145,7 +145,7 @@ gives_full law n exe words a b w =
     let before : StepsCome w.taken w.edges g w.last a w.now = law w.taken g w.last w.edges a w.now refl refl w.steps in
     let come : StepsCome (suc w.taken) edges g w.guest a b =
     law (suc w.taken) g w.guest edges a b refl refl (record { first = w.edges; guest = w.last; now = w.now; before = w.steps; step = w.step; whole = refl }) in
-    let many : EDGE_LIMIT < length (collected edges es) = omega (
+    let many : FILE_EDGE_LIMIT < length (collected edges es) = omega (
       arith,
       w.passed,
       ap length (collected_append w.edges (edge_list w.guest.edge) es ∙ collected_one w.guest.edge (collected w.edges es)),

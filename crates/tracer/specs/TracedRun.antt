@@ -10,7 +10,7 @@ use Rattle.trace_file.specs.Edges.{Edge, with_edge, collected}
 use Rattle.tracer.specs.declared.answers.Traced.{Traced}
 use Rattle.tracer.specs.declared.answers.TracingError.{TracingError}
 use Rattle.tracer.specs.declared.answers.TracingError.TheVariants as errors
-use Rattle.tracer.specs.declared.recorder.TheConstants.{EDGE_LIMIT}
+use Rattle.trace_file.specs.declared.limits.TheConstants.{FILE_EDGE_LIMIT}
 
 -- that the run of an executable began
 abbrev pub entry_edge : Exe → Edge
@@ -34,7 +34,7 @@ error_of sys.Memory = errors.Memory
 
 -- the edges are no more than the limit
 abbrev pub AreFew : List Edge → Type 0
-AreFew es = length es ≤ EDGE_LIMIT
+AreFew es = length es ≤ FILE_EDGE_LIMIT
 
 -- at most n steps were taken, and their edges are recorded beside those of es
 pub record TraceStands (t : Traced) (n : ℕ) (g : GuestView) (es : List Edge) (before after : Streams) : Type 0 where
@@ -54,7 +54,7 @@ pub record TracePasses (n : ℕ) (g : GuestView) (es : List Edge) (before after 
   pub few : AreFew (collected edges es)
   pub guest : GuestView
   pub step : StepCall (Ok true) 0 last guest now after
-  pub passed : EDGE_LIMIT < length (with_step guest.edge (collected edges es))
+  pub passed : FILE_EDGE_LIMIT < length (with_step guest.edge (collected edges es))
 
 -- the next step failed
 pub record TraceBreaks (e : SysError) (n : ℕ) (g : GuestView) (es : List Edge) (before after : Streams) : Type 0 where
