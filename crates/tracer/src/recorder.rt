@@ -20,6 +20,7 @@ pub struct Recorder {
 impl Model for Recorder {
     ghost use Rattle.std.specs.Prelude.{List, ◌≤◌, length};
     ghost use Rattle.trace_file.specs.Edges.{Edge};
+    ghost use Rattle.trace_file.specs.declared.limits.TheConstants.{FILE_EDGE_LIMIT};
 
     ghost Value = { List Edge };
 
