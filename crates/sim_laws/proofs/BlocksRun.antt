@@ -1,26 +1,21 @@
 -- A well-defined run goes through a block instruction by instruction.
-use Rattle.std.proofs.Common.{◌≡◌, ◌≢◌, ℕ, zero, suc, ◌+◌, ◌≤◌, Bool, true, false, ◌&&◌, List, [], ◌∷◌, ◌++◌, length, Contains, Some, None, refl, sym, ap, ◌∙◌, subst, arith, mod-eq_of_lt, ◌⊎◌, inl, inr, ⊎_elim}
-use Rattle.std.specs.Prelude.{option_to_list, if◌then◌else◌}
-use Rattle.std.specs.Bool.{then_some}
+use Rattle.std.proofs.Common.{◌≡◌, ◌≢◌, ℕ, zero, suc, ◌+◌, ◌≤◌, List, [], ◌∷◌, length, Some, refl, sym, ap, ◌∙◌, subst, arith, mod-eq_of_lt}
 use Rattle.std.proofs.lemmas.List.Sums.{sum_by-cons}
 use Rattle.br_word.specs.State.{State, Running}
 use Rattle.elf_read.specs.declared.exe.Exe.{Exe}
-use Rattle.elf_read.specs.Elf.{is_exec, IsGuest}
-use Rattle.elf_read.specs.Code.{code_at}
+use Rattle.elf_read.specs.Elf.{IsGuest}
 use Rattle.ia_inst.specs.declared.inst.Inst.{Inst}
 use Rattle.ia_inst.specs.declared.inst.Kind.{Kind}
 use Rattle.ia_inst.specs.declared.inst.Kind.TheVariants as kinds
 use Rattle.ia_inst.specs.Kinds.{kind_of}
-use Rattle.ia_inst.specs.Instructions.{decode_of}
 use Rattle.ia_inst.specs.Meaning.{wrap}
-use Rattle.ia_inst.specs.Step.{Found, NoCode, NoInst, There, found, found_from, result_at, step_result, settled, unless_stopped, step, NoFault, IsWellDefined}
+use Rattle.ia_inst.specs.Step.{There, result_at, step_result, settled, unless_stopped, step, NoFault, IsWellDefined}
 use Rattle.ia_inst.specs.System.{StepResult, On, Bad}
 use Rattle.block_cut.specs.declared.ends.End.{End}
 use Rattle.block_cut.specs.declared.ends.End.TheVariants.{Transfer, Island, BeforeIsland, Unreadable, Full}
 use Rattle.block_cut.specs.Places.{Placed, found_at, inst_found}
-use Rattle.block_cut.specs.Blocks.{BasicBlock, size_of, last_of, StandFrom, ArePlain, EndWith, EndsSo, IsBlock, kind_found, block_of, is_followed, next_of, follow_of, EachHasOneBlock}
+use Rattle.block_cut.specs.Blocks.{size_of, StandFrom, ArePlain, EndWith, EndsSo, IsBlock, block_of, EachHasOneBlock}
 use Rattle.block_cut.proofs.Standing.{inside}
-use Rattle.run_model.specs.Edges.{Edge, is_transfer_kind, edge_by, edge_at, edge_of, edges_from}
 use Rattle.run_model.specs.Run.{Observation, run, WellDefined}
 use Rattle.sim_laws.specs.ByKind.{IsQuiet, GoesBy, EachGoesByKind}
 use Rattle.sim_laws.specs.InCode.{IsStateOf, StepsInCode}

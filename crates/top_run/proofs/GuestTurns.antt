@@ -16,6 +16,7 @@ use Rattle.top_files.specs.OriginalPart.{of_word, with_digest}
 use Rattle.tracer.specs.declared.answers.Traced.{Traced}
 use Rattle.tracer.specs.TracedRun.{traced, with_step, entry_edge}
 use Rattle.trace_file.specs.declared.limits.TheConstants.{FILE_EDGE_LIMIT}
+use Rattle.guest_run.specs.InputUse.{StepsUseInput}
 use Rattle.top_run.specs.TracePlan.{tour_plan, unless_full, traced_part, trace_plan}
 use Rattle.top_run.proofs.GuestRuns.{has_stopped}
 use Rattle.top_run.proofs.InputUsed.{guest_uses}
@@ -85,15 +86,15 @@ spares rest k (Faulted f) quiet = inr (quiet (λ running. cc))
 abbrev IsGood : Turned → List ℕ → Plan → Type 0
 IsGood turned left rest = Uses turned left × ((turned.spare ≡ 0) ⊎ NoInput rest)
 
-are_good : OfGuests IsGood
-are_good g left rest running quiet = (guest_uses g left running, spares rest (asks_next (step (fed left g.state) 0)) (step (fed left g.state) 0).stop quiet)
+are_good : StepsUseInput → OfGuests IsGood
+are_good law g left rest running quiet = (guest_uses law g left running, spares rest (asks_next (step (fed left g.state) 0)) (step (fed left g.state) 0).stop quiet)
 
-pub run_orderly : (steps : ℕ) (name : List ℕ) (args : List (List ℕ)) (word : ℕ) → IsOrderly (run_plan steps name args word)
+pub run_orderly : StepsUseInput → (steps : ℕ) (name : List ℕ) (args : List (List ℕ)) (word : ℕ) → IsOrderly (run_plan steps name args word)
 unfolding AllTurns
-run_orderly steps name args word = λ bytes. checked_turns IsGood (of_word word (elf Guest bytes)) _ (λ exe. guest_turns IsGood steps (beginning exe args) are_good)
+run_orderly law steps name args word = λ bytes. checked_turns IsGood (of_word word (elf Guest bytes)) _ (λ exe. guest_turns IsGood steps (beginning exe args) (are_good law))
 
-pub trace_orderly : (steps : ℕ) (target original : List ℕ) (args : List (List ℕ)) (word : ℕ) → IsOrderly (trace_plan steps target original args word)
+pub trace_orderly : StepsUseInput → (steps : ℕ) (target original : List ℕ) (args : List (List ℕ)) (word : ℕ) → IsOrderly (trace_plan steps target original args word)
 unfolding AllTurns NoInput
-trace_orderly steps target original args word =
+trace_orderly law steps target original args word =
     λ bytes. checked_turns IsGood (with_digest bytes (of_word word (elf Original bytes))) _
-    (λ subject. tour_turns IsGood (traced_part target subject.digest) steps (beginning subject.exe args) (entry_edge subject.exe ∷ []) are_good (λ t. tt) (λ t. tt))
+    (λ subject. tour_turns IsGood (traced_part target subject.digest) steps (beginning subject.exe args) (entry_edge subject.exe ∷ []) (are_good law) (λ t. tt) (λ t. tt))

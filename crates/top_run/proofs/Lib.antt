@@ -1,9 +1,9 @@
 pub mod InputUsed
-pub mod EdgesOfSteps
 pub mod GuestRuns
 pub mod GuestTurns
 pub mod GuestEnds
 pub mod RunMeant
+pub mod EdgesOfSteps
 pub mod TourRuns
 pub mod TourEnds
 pub mod TraceMeant

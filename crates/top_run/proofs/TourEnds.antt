@@ -1,5 +1,6 @@
 -- What the turns of a traced guest come to is its run, up to the step in which its edges are too many.
 use Rattle.std.proofs.Common.{◌≡◌, ◌<◌, ◌≤◌, ℕ, zero, suc, List, length, Err, sym, ◌∙◌, ap, arith}
+use Rattle.trace_file.specs.declared.limits.TheConstants.{FILE_EDGE_LIMIT}
 use Rattle.br_word.specs.State.{State, Running}
 use Rattle.ia_inst.specs.Step.{step}
 use Rattle.br_outside.specs.Files.{Files}
@@ -9,7 +10,6 @@ use Rattle.guest_run.specs.Guest.{GuestView, answer_of}
 use Rattle.trace_file.specs.Edges.{Edge, collected}
 use Rattle.tracer.specs.declared.answers.Traced.{Traced}
 use Rattle.tracer.specs.TracedRun.{with_step}
-use Rattle.trace_file.specs.declared.limits.TheConstants.{FILE_EDGE_LIMIT}
 use Rattle.top_run.proofs.EdgesOfSteps.{all_rest, collected_append, collected_step, edges_after, after_none}
 use Rattle.top_plan.specs.Plan.{Plan}
 use Rattle.top_plan.specs.Expected.{ends_with, turned_before, expected}

@@ -48,12 +48,12 @@ has_stopped last zero g es not = refl
 has_stopped last (suc n) g es not = stopped_plan g.state.stop _ _ not
 
 pub has_room : (next : List Edge → Plan) (es : List Edge) → length es ≤ FILE_EDGE_LIMIT → unless_full next es ≡ next es
-has_room next es few = ap (λ b. cond b (next es) (Ends (Err (Limited (limits.Union 2000000))))) (le-leb (length es) FILE_EDGE_LIMIT few)
+has_room next es few = ap (λ b. cond b (next es) (Ends (Err (Limited (limits.Union FILE_EDGE_LIMIT))))) (le-leb (length es) FILE_EDGE_LIMIT few)
 
-pub is_full : (next : List Edge → Plan) (es : List Edge) → FILE_EDGE_LIMIT < length es → unless_full next es ≡ Ends (Err (Limited (limits.Union 2000000)))
-is_full next es many = ap (λ b. cond b (next es) (Ends (Err (Limited (limits.Union 2000000))))) (lt-leb (length es) FILE_EDGE_LIMIT many)
+pub is_full : (next : List Edge → Plan) (es : List Edge) → FILE_EDGE_LIMIT < length es → unless_full next es ≡ Ends (Err (Limited (limits.Union FILE_EDGE_LIMIT)))
+is_full next es many = ap (λ b. cond b (next es) (Ends (Err (Limited (limits.Union FILE_EDGE_LIMIT))))) (lt-leb (length es) FILE_EDGE_LIMIT many)
 
--- ---- what follows a traced run
+-- ---- what follows a tour
 
 -- the run goes on with the trace, or ends with the error
 abbrev pub Follows : (Traced → Plan) → Result Traced TracingError → World → WorkEnd → World → Type 0
@@ -103,7 +103,7 @@ taken_on last zero m n g h es edges v before after o u all w few went =
 taken_on last (suc k) m n g h es edges v before after o u all w few went =
     let first = collected w.first es in
     let same : collected edges es ≡ with_step h.edge first =
-    ap (λ xs. collected xs es) w.whole ∙ (collected_append w.first (edge_list h.edge) es ∙ collected_one h.edge first) in
+        ap (λ xs. collected xs es) w.whole ∙ (collected_append w.first (edge_list h.edge) es ∙ collected_one h.edge first) in
     let fit : length (with_step h.edge first) ≤ FILE_EDGE_LIMIT = omega (arith, few, ap length same) in
     let before_fit : length first ≤ FILE_EDGE_LIMIT = omega (arith, fit, grows (edge_list h.edge) first, ap length (collected_one h.edge first)) in
     let P : List Edge → Type 0 = λ xs. Went (tour_plan last m h xs) (with_streams v after) o u in
@@ -134,13 +134,13 @@ stood last t n g es v before after o u w went =
     (stands_last last (n - w.run.taken) w.guest (collected w.run.edges es) _ o u (λ running. let e = w.run.all running in omega (arith, e)) (subst P w.answer went))
 
 passed : (last : Traced → Plan) (n : ℕ) (g : GuestView) (es : List Edge) (v : ShelfView) (before after : Streams) → TracePasses n g es before after
-    → Went (tour_plan last n g es) (with_streams v before) (Err (Because (Limited (limits.Union 2000000)))) (with_streams v after)
+    → Went (tour_plan last n g es) (with_streams v before) (Err (Because (Limited (limits.Union FILE_EDGE_LIMIT)))) (with_streams v after)
 passed last n g es v before after w =
     let full = with_step w.guest.edge (collected w.edges es) in
     let rest = n - suc w.taken in
     taken_on last w.taken (suc rest) n g w.last es w.edges v before w.now _ _ (omega (arith, w.within)) w.steps w.few
     (stepped_on last rest w.last w.guest (collected w.edges es) v w.now after _ _ w.step
-    (same_plan _ _ _ _ _ (is_full (tour_plan last rest w.guest) full w.passed) (ended (Err (Limited (limits.Union 2000000))) _)))
+    (same_plan _ _ _ _ _ (is_full (tour_plan last rest w.guest) full w.passed) (ended (Err (Limited (limits.Union FILE_EDGE_LIMIT))) _)))
 
 broke : (last : Traced → Plan) (e : SysError) (n : ℕ) (g : GuestView) (es : List Edge) (v : ShelfView) (before after : Streams) → TraceBreaks e n g es before after
     → Went (tour_plan last n g es) (with_streams v before) (Err (halt_of_tracing (error_of e))) (with_streams v after)

@@ -1,5 +1,5 @@
 //! `run [--steps K] E WORD..`: a guest takes at most K steps.
-ghost use Rattle.std.specs.Prelude.{◌≡◌, ◌≤◌, ◌+◌, ◌^◌, Ok, IfOk, length, true, map, string_bytes};
+ghost use Rattle.std.specs.Prelude.{◌≡◌, ◌≤◌, ◌+◌, Ok, IfOk, length, true, map, string_bytes};
 ghost use Rattle.elf_read.specs.Elf.{elf, IsGuest};
 ghost use Rattle.elf_read.specs.declared.exe.Reach.TheVariants as reaches;
 ghost use Rattle.br_outside.specs.Outside.{ShelfView};
@@ -15,7 +15,7 @@ ghost use Rattle.top_plan.specs.Texts.{end_of};
 use crate::lines::{finish_of, last_line};
 use br_outside::{Shelf, Sink, Source};
 use elf_read::{ElfError, Exe, GUEST_FILE_LIMIT, Reach, read_elf};
-use guest_run::{Guest, SysError};
+use guest_run::{Guest, STEP_LIMIT, SysError};
 use std::alloc::Global;
 use top_plan::{Cause, Halt, Object, Outcome, fetch_file};
 
@@ -85,7 +85,7 @@ fn take_turns<I: Source, O: Sink, R: Sink>(
     report: &mut R,
 ) -> Result<(), Halt>
     requires live { guest.old.live ≡ true }
-    requires room { guest.old.steps + budget ≤ 10 ^ 18 }
+    requires room { guest.old.steps + budget ≤ STEP_LIMIT }
     ensures { (v : ShelfView) → TakesTurns budget guest.old
         (world v (I.seen input.old) (O.seen out.old) (R.seen report.old)) result
         guest.new (world v (I.seen input.new) (O.seen out.new) (R.seen report.new)) }
@@ -126,7 +126,7 @@ fn run_guest<I: Source, O: Sink, R: Sink>(
 ) -> Result<Outcome, Halt>
     requires fit { FitArguments (map string_bytes args.now) }
     requires guest { IsGuest exe.now }
-    requires few { steps ≤ 10 ^ 18 }
+    requires few { steps ≤ STEP_LIMIT }
     ensures { (v : ShelfView) → Went (guest_plan steps (beginning exe.now (map string_bytes args.now)))
         (world v (I.seen input.old) (O.seen out.old) (R.seen report.old)) (end_of result)
         (world v (I.seen input.new) (O.seen out.new) (R.seen report.new)) }
@@ -153,7 +153,7 @@ pub fn run_command<F: Shelf, I: Source, O: Sink, R: Sink>(
     word: u32,
 ) -> Result<Outcome, Halt>
     requires fit { FitArguments (map string_bytes args.now) }
-    requires few { steps ≤ 10 ^ 18 }
+    requires few { steps ≤ STEP_LIMIT }
     ensures { Went (run_plan steps original.now (map string_bytes args.now) word)
         (world (F.seen shelf.old) (I.seen input.old) (O.seen out.old) (R.seen report.old)) (end_of result)
         (world (F.seen shelf.new) (I.seen input.new) (O.seen out.new) (R.seen report.new)) }

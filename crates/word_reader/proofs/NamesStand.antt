@@ -1,10 +1,10 @@
 -- The names of `run` and `trace` stand where first_name says.
-use Rattle.std.proofs.Common.{◌≡◌, ℕ, ◌+◌, ◌&&◌, nat_le, Bool, true, false, cond, List, [], ◌∷◌, get_or, Option, Some, None, refl, ap, ◌∙◌, subst}
+use Rattle.std.proofs.Common.{◌≡◌, ℕ, ◌+◌, ◌&&◌, nat_le, Bool, true, false, cond, List, [], ◌∷◌, get_or, Option, Some, None, refl, ap, subst}
 use Rattle.std.specs.Prelude.{codes, Result, Ok, Err}
 use Rattle.std.specs.Str.{bytes_eq}
 use Rattle.word_reader.specs.declared.limits.TheConstants.{DIGIT_LIMIT, DEFAULT_STEPS, DEMO_LIMIT, FIRST_NAME, FIRST_NAME_BEHIND_STEPS}
 use Rattle.word_reader.specs.Numbers.{number_in}
-use Rattle.word_reader.specs.Words.{Asked, Builds, Traces, Runs, Merges, Shows, Sessions, Demos, is_name, next_name, no_more, unless_wrong, or_wrong, first_no_argument, first_no_trace, traces_at, arguments_at, own_bytes, is_steps, steps_behind, next_steps, first_name, build_words, trace_words, run_words, merge_words, show_words, session_words, demo_words, demo_count, command, Named}
+use Rattle.word_reader.specs.Words.{Asked, Builds, Traces, Runs, Merges, Shows, Sessions, Demos, is_name, next_name, no_more, unless_wrong, or_wrong, first_no_argument, first_no_trace, traces_at, arguments_at, own_bytes, is_steps, steps_behind, first_name, build_words, trace_words, run_words, merge_words, show_words, session_words, demo_words, demo_count, command, Named}
 
 -- what is read is named where it stands
 unfoldable Stood : List (List ℕ) → Result Asked ℕ → Type 0
