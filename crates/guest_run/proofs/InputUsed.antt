@@ -4,7 +4,7 @@ use Rattle.std.proofs.lemmas.List.{length-take, length-drop}
 use Rattle.std.proofs.lemmas.Bool.{eqb-true}
 use Rattle.br_word.specs.declared.types.GuestFault.TheVariants.{Access}
 use Rattle.br_word.specs.Memory.{Region, resized}
-use Rattle.br_word.specs.State.{State, Running}
+use Rattle.br_word.specs.State.{State}
 use Rattle.ia_inst.specs.declared.inst.Inst.{Inst}
 use Rattle.ia_inst.specs.declared.inst.Inst.TheVariants as inst
 use Rattle.ia_inst.specs.Act.{Completion, Next, Denied, Divided, Called, perform}

@@ -1,12 +1,11 @@
 -- A run of n steps, where n is m + j, is a run of m steps and then one of j.
-use Rattle.std.proofs.Common.{◌≡◌, ℕ, zero, suc, ◌+◌, ◌≤◌, List, [], ◌∷◌, ◌++◌, Option, Some, None, refl, sym, ◌∙◌, ap, subst, arith, append_assoc}
-use Rattle.std.proofs.lemmas.List.{append-nil}
+use Rattle.std.proofs.Common.{◌≡◌, ℕ, zero, suc, ◌+◌, [], ◌++◌, Option, refl, sym, ◌∙◌, ap, arith, append_assoc}
 use Rattle.br_word.specs.Words.{bit}
 use Rattle.br_word.specs.State.{State, RunState, Running, Exited, Faulted}
 use Rattle.ia_inst.specs.Step.{step}
 use Rattle.run_model.specs.Edges.{Edge, edge_of, edges_from}
 use Rattle.run_model.specs.Run.{run}
-use Rattle.guest_run.specs.Guest.{first_edge, reads_undefined, while_running, steps_taken, undefined_taken, edge_after}
+use Rattle.guest_run.specs.Guest.{first_edge, reads_undefined, steps_taken, undefined_taken, edge_after}
 use Rattle.guest_run.proofs.StoppedRuns.{running_some, run_none, steps_none, undefined_none, edge_none}
 
 -- a guest that has stopped takes no step

@@ -1,5 +1,5 @@
 -- The steps that a guest takes are those of its run.
-use Rattle.std.proofs.Common.{◌≡◌, ℕ, Bool, zero, suc, ◌+◌, ◌-◌, ◌≤◌, true, false, List, [], ◌∷◌, ◌++◌, drop, Option, Some, None, IfSome, Result, Ok, Err, refl, sym, ◌∙◌, ap, subst, arith}
+use Rattle.std.proofs.Common.{◌≡◌, ℕ, Bool, zero, suc, ◌+◌, ◌-◌, ◌≤◌, true, false, List, [], ◌++◌, drop, Option, Some, None, IfSome, Result, Ok, Err, refl, sym, ◌∙◌, ap, subst, arith}
 use Rattle.std.proofs.lemmas.List.{append-nil}
 use Rattle.br_word.specs.Words.{bit}
 use Rattle.br_word.specs.State.{State, RunState, Running, Exited, Faulted}
@@ -12,7 +12,7 @@ use Rattle.guest_sys.specs.Calls.{spare, Passes}
 use Rattle.run_model.specs.Edges.{Edge, is_transfer, edge_by, edge_at, edge_of, edges_from}
 use Rattle.run_model.specs.Run.{run}
 use Rattle.guest_run.specs.declared.stop.Stop as answer
-use Rattle.guest_run.specs.Guest.{GuestView, first_edge, reads_undefined, asks_next, ahead, while_running, steps_taken, undefined_taken, edge_after, answer_of, StepDone, StepFailed, StepCall, AllSteady, OneFails, RunDone, RunFailed, RunFailsAt, Runs}
+use Rattle.guest_run.specs.Guest.{GuestView, first_edge, reads_undefined, asks_next, ahead, while_running, edge_after, answer_of, StepDone, StepFailed, StepCall, RunDone, RunFailed, RunFailsAt, Runs}
 use Rattle.guest_run.specs.BoundedRun.{edge_list, TakesSteps, RunStands, RunBreaks, BoundedRun, StepsTold, StepsCome, BreakTold, BreakComes, StepsHold, RunsHold, BreaksHold}
 use Rattle.guest_run.proofs.EarlierBytes.{shown, shown_bare, step_shown, reads_shown, of_shown, ahead_shown}
 use Rattle.guest_run.proofs.StoppedRuns.{running_some, run_none, steps_none, undefined_none, edge_none}
@@ -177,7 +177,7 @@ break_told e n s left edges g k h a now b w told d =
       running = at.running;
       state = ap (λ (x : GuestView). x.state) failed.guest ∙ w.state;
       streams = subst P (sym (shown_bare u)) (subst Q (sym (step_shown u.out u.err u0 0))
-      (fails_later e u u0 (step u0 0) a now b at.passes (fails_now e u0 (step u0 0) now b at.tells refl refl failed.streams)));
+          (fails_later e u u0 (step u0 0) a now b at.passes (fails_now e u0 (step u0 0) now b at.tells refl refl failed.streams)));
     }
 
 pub breaks_hold : BreaksHold

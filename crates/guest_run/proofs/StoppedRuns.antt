@@ -1,5 +1,5 @@
 -- Runs by whether the guest still runs: one that has stopped takes no step.
-use Rattle.std.proofs.Common.{◌≡◌, ℕ, zero, suc, ◌+◌, List, [], Option, refl, ◌∙◌, ap}
+use Rattle.std.proofs.Common.{◌≡◌, ℕ, zero, suc, ◌+◌, [], Option, refl, ◌∙◌, ap}
 use Rattle.br_word.specs.Words.{bit}
 use Rattle.br_word.specs.State.{State, RunState, Running, Exited, Faulted}
 use Rattle.ia_inst.specs.Step.{unless_stopped, settled, step_result, step}

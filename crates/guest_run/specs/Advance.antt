@@ -83,7 +83,8 @@ pub record Trap (at : ℕ) (result : Result Advanced SysError) (old new : Machin
   pub left : List ℕ
   pub told : Tells left old.streams.input
   pub gives : AdvanceGives result (fed left (state_of (record (old.cpu) { eip = at }) old.memory))
-      (of_call old.cpu.eip (fed left (state_of (record (old.cpu) { eip = at }) old.memory))) (record old { cpu = record (old.cpu) { eip = at } }) new
+      (of_call old.cpu.eip (fed left (state_of (record (old.cpu) { eip = at }) old.memory)))
+      (record old { cpu = record (old.cpu) { eip = at } }) new
 
 -- the edge from an address to another, if there is one
 abbrev pub edge_if : Bool → ℕ → ℕ → Option Edge

@@ -104,4 +104,5 @@ RunsHold = (result : Stop) (n : ℕ) (g h : GuestView) (before after : Streams) 
 -- what steps come to where the next one fails
 abbrev pub BreaksHold : Type 0
 BreaksHold = (e : SysError) (n : ℕ) (g k h : GuestView) (edges : List Edge) (before now after : Streams)
-    → g.live ≡ true → g.state ≡ bare g.state → TakesSteps n g before edges k now → StepCall (Err e) 0 k h now after → BreakComes e n g h before after
+    → g.live ≡ true → g.state ≡ bare g.state → TakesSteps n g before edges k now → StepCall (Err e) 0 k h now after
+    → BreakComes e n g h before after

@@ -200,8 +200,8 @@ pub record Unchanged (bytes : List ℕ) (old new : StreamView) : Type 0 where
 
 -- a run failed in the step from u to v
 abbrev pub RunFailsAt : SysError → State → State → Streams → Streams → Type 0
-RunFailsAt Input u v before after = ((n : ℕ) × (n < asks u) × HasLeft (drop n u.input) before.input after.input) × Fails before.input after.input
-    × Gains u.out before.out after.out × Gains u.err before.err after.err
+RunFailsAt Input u v before after = ((n : ℕ) × (n < asks u) × HasLeft (drop n u.input) before.input after.input)
+    × Fails before.input after.input × Gains u.out before.out after.out × Gains u.err before.err after.err
 RunFailsAt Out u v before after = PartGiven u.out v.out before.out after.out × Fails before.out after.out
     × Leaves u.input before.input after.input × Gains u.err before.err after.err
 RunFailsAt Report u v before after = PartGiven u.err v.err before.err after.err × Fails before.err after.err

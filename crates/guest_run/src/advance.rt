@@ -1,6 +1,5 @@
 //! One step of a guest that runs, on its processor and its memory.
-ghost use Rattle.std.specs.Prelude.{◌≡◌, ◌<◌, ◌-◌, ◌^◌, IsTrue, IfSome, Some, None};
-ghost use Rattle.ia_inst.specs.Instructions.{decode_of};
+ghost use Rattle.std.specs.Prelude.{◌≡◌, ◌<◌, ◌-◌, ◌^◌, IsTrue, Some, None};
 ghost use Rattle.ia_inst.specs.Canonical.{valid_of};
 ghost use Rattle.ia_inst.specs.Step.{There, found};
 ghost use Rattle.guest_sys.specs.Machine.{machine};
@@ -11,7 +10,7 @@ use crate::stop::Stop;
 use br_outside::{Sink, Source};
 use guest_mem::Memory;
 use guest_sys::{Called, SysError, system};
-use ia_decode::decode;
+use ia_decode::{decode, fifteen_bytes_decide};
 use ia_inst::{GuestFault, Inst, Kind, kind};
 use ia_meaning::{Cpu, Outcome, execute};
 use std::alloc::Global;
@@ -36,24 +35,17 @@ pub struct Advanced {
     pub edge: Option<(u32, u32)>,
 }
 
-/// The instruction with which bytes begin, and its length.
-fn instruction(bytes: &[u8]) -> Option<(Inst, u8)>
-    ensures listed { result ≡ decode_of bytes.now }
-    ensures valid { IfSome result (λ i. IsTrue (valid_of i.0)) }
-{
-    decode(bytes)
-}
-
 /// What stands at an address.
 fn code_at(memory: &Memory, at: u32) -> Code
     ensures { IsFound (found at memory.now.regions) result }
 {
+    fifteen_bytes_decide();
     let mut bytes = [0u8; 15];
     let count = memory.fetch(at, &mut bytes);
     if count == 0 {
         return Code::Missing;
     }
-    match instruction(&bytes[..count as usize]) {
+    match decode(&bytes[..count as usize]) {
         None => Code::Unreadable,
         Some((inst, len)) => Code::Inst(inst, len),
     }

@@ -10,8 +10,8 @@ mod stop;
 
 pub use arguments::{ARGUMENT_LIMIT, WORD_LIMIT, args_fit};
 pub use guest::{Guest, STEP_LIMIT};
-pub use laws::{breaks_hold, input_is_used, runs_hold, steps_hold};
 pub use guest_sys::SysError;
+pub use laws::{breaks_hold, input_is_used, runs_hold, steps_hold};
 pub use stop::Stop;
 
 #[cfg(test)]

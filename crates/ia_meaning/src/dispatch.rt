@@ -102,7 +102,8 @@ fn carry_out(i: &Inst, len: u8, cpu: &mut Cpu, m: &mut Memory, choice: u8) -> Re
 /// Some flag of these bits is not defined.
 fn some_undefined(bits: u8, known: &Flags) -> bool
     ensures { result ≡ ((bits % 2 == 1) && not known.now.cf || (bits / 2 % 2 == 1) && not known.now.pf
-        || (bits / 4 % 2 == 1) && not known.now.zf || (bits / 8 % 2 == 1) && not known.now.sf || (bits / 16 % 2 == 1) && not known.now.of) }
+        || (bits / 4 % 2 == 1) && not known.now.zf || (bits / 8 % 2 == 1) && not known.now.sf
+        || (bits / 16 % 2 == 1) && not known.now.of) }
 {
     (bits % 2 == 1 && !known.cf)
         || (bits / 2 % 2 == 1 && !known.pf)

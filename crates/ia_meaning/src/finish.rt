@@ -36,7 +36,8 @@ pub fn finish(
     requires dst { IsTrue (rm_valid dst.now) }
     requires value { v < 2 ^ bits_of w }
     ensures { (r : Result) (c : ℕ) → v ≡ r.value → after ≡ status_after r.changes cpu.old c
-        → Goes (perform (to_rm w dst.now r.value cpu.old.regs (λ regs. Ends regs cpu.old.df r.changes (Past len))) c (view cpu.old) m.old.regions)
+        → Goes (perform (to_rm w dst.now r.value cpu.old.regs (λ regs. Ends regs cpu.old.df r.changes (Past len)))
+        c (view cpu.old) m.old.regions)
         result cpu.old m.old cpu.new m.new }
 {
     write_rm(w, dst, v, &mut cpu.regs, m)?;
@@ -55,7 +56,9 @@ pub fn finish_plain(
 ) -> Result<(), Refused>
     requires dst { IsTrue (rm_valid dst.now) }
     requires value { v < 2 ^ bits_of w }
-    ensures { (c : ℕ) → Goes (perform (to_rm w dst.now v cpu.old.regs (λ regs. Ends regs cpu.old.df no_changes (Past len))) c (view cpu.old) m.old.regions)
+    ensures { (c : ℕ)
+        → Goes (perform (to_rm w dst.now v cpu.old.regs (λ regs. Ends regs cpu.old.df no_changes (Past len)))
+        c (view cpu.old) m.old.regions)
         result cpu.old m.old cpu.new m.new }
 {
     finish(w, dst, v, kept(cpu), len, cpu, m)

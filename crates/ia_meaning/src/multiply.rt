@@ -55,7 +55,8 @@ fn no_status(cpu: &Cpu, choice: u8) -> Status
 /// Puts a product into edx and eax.
 fn put_product(p: u64, over: bool, len: u8, cpu: &mut Cpu, choice: u8)
     ensures { (n : ℕ) (big : Bool) (m : MemoryView) → p ≡ n → over ≡ big
-        → Goes (perform (Ends (with_pair (n / 2 ^ 32) (n % 2 ^ 32) cpu.old.regs) cpu.old.df (product_changes big) (Past len)) choice (view cpu.old) m.regions)
+        → Goes (perform (Ends (with_pair (n / 2 ^ 32) (n % 2 ^ 32) cpu.old.regs) cpu.old.df (product_changes big) (Past len))
+        choice (view cpu.old) m.regions)
         (Ok tt) cpu.old m cpu.new m }
 {
     let after = product_status(over, cpu, choice);

@@ -39,7 +39,8 @@ pub fn push(src: &Src, len: u8, cpu: &mut Cpu, m: &mut Memory) -> Result<(), Ref
     Ok(())
 }
 
-/// POP: the word at esp goes to the operand, and esp rises by 4 (SDM volume 2). The address of the destination takes the stack pointer as it is after the value was popped.
+/// POP: the word at esp goes to the operand, and esp rises by 4 (SDM volume 2). The address of the destination
+/// takes the stack pointer as it is after the value was popped.
 #[tactic(auto, unfolding(ia_inst::specs::Meaning::meaning))]
 pub fn pop(dst: &Rm, len: u8, cpu: &mut Cpu, m: &mut Memory) -> Result<(), Refused>
     requires { IsTrue (rm_valid dst.now) }

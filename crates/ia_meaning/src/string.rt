@@ -31,7 +31,8 @@ fn moved(df: bool, w: Width, at: u32) -> u32
 /// A repeated instruction counts ecx down, and is left where that comes to 0.
 fn iterate(rep: bool, len: u8, cpu: &mut Cpu)
     ensures { (c : ℕ) (regs : List ℕ) (m : MemoryView)
-        → Goes (perform (iterated rep cpu.old.regs cpu.old.df len) c (record (view cpu.old) { regs = regs }) m.regions) (Ok tt) cpu.old m cpu.new m }
+        → Goes (perform (iterated rep cpu.old.regs cpu.old.df len) c (record (view cpu.old) { regs = regs }) m.regions)
+        (Ok tt) cpu.old m cpu.new m }
 {
     let next = next_of(cpu, len);
     if rep {

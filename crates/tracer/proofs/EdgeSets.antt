@@ -9,7 +9,7 @@ use Rattle.std.specs.List.Sorted.{IsStrictlySortedBy}
 use Rattle.std.specs.Prelude.{cond}
 use Rattle.std.proofs.lemmas.Bool.Decides.{nat_tests}
 use Rattle.tracer.specs.declared.answers.TracingError.TheVariants as errors
-use Rattle.tracer.specs.declared.recorder.TheConstants.{EDGE_LIMIT}
+use Rattle.trace_file.specs.declared.limits.TheConstants.{FILE_EDGE_LIMIT}
 use Rattle.tracer.specs.Records.{Records}
 use Rattle.trace_file.specs.Edges.{Edge, before, ascends_after, ascends, step, merge, with_edge, IsEdges}
 use Rattle.trace_file.proofs.Sorted.{tied, and_both}
@@ -55,16 +55,16 @@ ascends_keys (x ∷ y ∷ ys) h = and_both (before x y) (ascends_after y ys) (le
 
 -- there is room for another edge, or the edge is there
 abbrev pub HasRoom : Edge → List Edge → Type 0
-HasRoom e es = (length es < EDGE_LIMIT) ⊎ (list_any (λ x. is_eq (pair_cmp e x)) es ≡ true)
+HasRoom e es = (length es < FILE_EDGE_LIMIT) ⊎ (list_any (λ x. is_eq (pair_cmp e x)) es ≡ true)
 
-pub record_full : (e : Edge) (es : List Edge) → EDGE_LIMIT ≤ length es → list_any (λ x. is_eq (pair_cmp e x)) es ≡ false → EDGE_LIMIT < length (with_edge e es)
+pub record_full : (e : Edge) (es : List Edge) → FILE_EDGE_LIMIT ≤ length es → list_any (λ x. is_eq (pair_cmp e x)) es ≡ false → FILE_EDGE_LIMIT < length (with_edge e es)
 record_full e es full absent = omega (arith, full, insert_length e es absent, ap length (insert_is e es))
 
-pub record_done : (e : Edge) (es new : List Edge) (added : Bool) → length es ≤ EDGE_LIMIT → HasRoom e es → added ≡ not (list_any (λ x. is_eq (pair_cmp e x)) es)
+pub record_done : (e : Edge) (es new : List Edge) (added : Bool) → length es ≤ FILE_EDGE_LIMIT → HasRoom e es → added ≡ not (list_any (λ x. is_eq (pair_cmp e x)) es)
     → length new ≡ length es + (if added then 1 else 0) → new ≡ insert_key pair_cmp es e → Records (Ok tt) e es new
 record_done e es new added most room a l k = (k ∙ insert_is e es, fits added room a l)
   where
-    fits : (added : Bool) → HasRoom e es → added ≡ not (list_any (λ x. is_eq (pair_cmp e x)) es) → length new ≡ length es + (if added then 1 else 0) → length new ≤ EDGE_LIMIT
+    fits : (added : Bool) → HasRoom e es → added ≡ not (list_any (λ x. is_eq (pair_cmp e x)) es) → length new ≡ length es + (if added then 1 else 0) → length new ≤ FILE_EDGE_LIMIT
     fits false room a l = omega (arith, l, most)
     fits true (inl less) a l = omega (arith, l, less)
     fits true (inr there) a l = absurd (let z = a ∙ ap not there in cc)
@@ -74,5 +74,5 @@ record_wants e es new (inl less) absent same = (omega (arith, less, insert_lengt
 record_wants e es new (inr there) absent same = absurd (let z = sym there ∙ absent in cc)
 
 -- what the keys of a recorder are
-pub is_edges : (keys items : List Edge) → IsStrictlySortedBy pair_cmp keys → length keys ≤ EDGE_LIMIT → items ≡ keys → IsEdges items
+pub is_edges : (keys items : List Edge) → IsStrictlySortedBy pair_cmp keys → length keys ≤ FILE_EDGE_LIMIT → items ≡ keys → IsEdges items
 is_edges keys items order most same = let P : List Edge → Type 0 = λ es. IsEdges es in subst P (sym same) (record { order = ascends_keys keys order; count = omega (arith, most) })

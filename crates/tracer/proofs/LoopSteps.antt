@@ -1,20 +1,19 @@
 -- The steps that a loop takes, with the edges that it records, and where it ends.
-use Rattle.std.proofs.Common.{◌≡◌, ℕ, suc, ◌+◌, ◌<◌, ◌≤◌, true, false, List, [], ◌∷◌, ◌++◌, length, Option, Some, None, Result, Ok, Err, refl, sym, ◌∙◌, ap, subst, inl, inr, arith}
+use Rattle.std.proofs.Common.{◌≡◌, ℕ, suc, ◌+◌, ◌<◌, ◌≤◌, true, false, List, [], ◌++◌, length, Option, Some, None, Result, Ok, Err, refl, sym, ◌∙◌, ap, subst, inl, inr, arith}
 use Rattle.std.specs.Result.{IsErrAnd}
-use Rattle.br_word.specs.State.{Running}
 use Rattle.br_outside.specs.Streams.{Streams}
 use Rattle.guest_sys.specs.declared.answers.SysError.{SysError}
 use Rattle.guest_sys.specs.declared.answers.SysError.TheVariants as sys
 use Rattle.guest_run.specs.declared.stop.Stop.{Stop}
 use Rattle.guest_run.specs.Guest.{GuestView, StepCall, answer_of}
-use Rattle.guest_run.specs.BoundedRun.{edge_list, TakesSteps, RunStands, RunBreaks}
-use Rattle.trace_file.specs.Edges.{Edge, with_edge, collected}
+use Rattle.guest_run.specs.BoundedRun.{edge_list, TakesSteps}
+use Rattle.trace_file.specs.Edges.{Edge, collected}
 use Rattle.tracer.specs.declared.answers.Traced.{Traced}
 use Rattle.tracer.specs.declared.answers.TracingError.{TracingError}
 use Rattle.tracer.specs.declared.answers.TracingError.TheVariants as errors
-use Rattle.tracer.specs.declared.recorder.TheConstants.{EDGE_LIMIT}
+use Rattle.trace_file.specs.declared.limits.TheConstants.{FILE_EDGE_LIMIT}
 use Rattle.tracer.specs.Records.{Records}
-use Rattle.tracer.specs.TracedRun.{with_step, traced, error_of, AreFew, TraceBreaks, TraceWants, TracedRun, Recorded, Follows}
+use Rattle.tracer.specs.TracedRun.{with_step, traced, error_of, AreFew, TraceBreaks, TracedRun, Recorded, Follows}
 use Rattle.tracer.proofs.MoreEdges.{collected_append, collected_one}
 
 -- ---- a step that was done
@@ -114,8 +113,8 @@ step_fails e m n g k h es hs a now b less w d = by_error e n g es a b (record {
 pub edge_fails : (x : TracingError) (e : Edge) (m n : ℕ) (g k h : GuestView) (es hs is : List Edge) (a now b : Streams) → m < n → AreTaken m g k es hs a now → StepCall (Ok true) 0 k h now b
     → h.edge ≡ Some e → Records (Err x) e hs is → TracedRun (Err x) n g es a b
 edge_fails errors.Union e m n g k h es hs is a now b less w d some r =
-    let P : Option Edge → Type 0 = λ o. EDGE_LIMIT < length (with_step o hs) in
-    let Q : List Edge → Type 0 = λ hs. EDGE_LIMIT < length (with_step h.edge hs) in
+    let P : Option Edge → Type 0 = λ o. FILE_EDGE_LIMIT < length (with_step o hs) in
+    let Q : List Edge → Type 0 = λ hs. FILE_EDGE_LIMIT < length (with_step h.edge hs) in
     record {
       taken = m;
       within = less;
@@ -191,7 +190,7 @@ pub traced_by : (n : ℕ) (g h : GuestView) (es hs is : List Edge) (stop : Stop)
 traced_by n g h es hs is stop steps undefined a b same stands taken read w =
     let f : List Edge → Stop → ℕ → ℕ → Traced = λ x y z u. record { edges = x; stop = y; steps = z; undefined = u } in
     let e : f is stop steps undefined ≡ traced h hs =
-        ap (λ x. f x stop steps undefined) same ∙ (ap (λ y. f hs y steps undefined) stands
-        ∙ (ap (λ z. f hs (answer_of h.state.stop) z undefined) taken ∙ ap (λ u. f hs (answer_of h.state.stop) h.steps u) read)) in
+    ap (λ x. f x stop steps undefined) same ∙ (ap (λ y. f hs y steps undefined) stands
+    ∙ (ap (λ z. f hs (answer_of h.state.stop) z undefined) taken ∙ ap (λ u. f hs (answer_of h.state.stop) h.steps u) read)) in
     let P : Traced → Type 0 = λ t. TracedRun (Ok t) n g es a b in
     subst P (sym e) (traced_after n g h es hs a b w)

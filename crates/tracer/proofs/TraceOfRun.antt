@@ -1,26 +1,24 @@
 -- What a traced run gives: the steps are those of the guest's run, and the edges are theirs.
-use Rattle.std.proofs.Common.{◌≡◌, ℕ, suc, ◌+◌, ◌<◌, ◌≤◌, true, false, List, [], ◌∷◌, ◌++◌, length, Option, Some, None, IfSome, Result, Ok, Err, Bool, refl, sym, ◌∙◌, ap, subst, inl, inr, arith}
+use Rattle.std.proofs.Common.{◌≡◌, ℕ, suc, ◌<◌, ◌≤◌, true, false, List, [], ◌∷◌, ◌++◌, length, Option, Some, None, IfSome, Result, Ok, Err, Bool, refl, ◌∙◌, ap, inl, inr, arith}
 use Rattle.br_word.specs.State.{State, RunState, Running, Exited, Faulted}
 use Rattle.ia_inst.specs.Step.{step}
 use Rattle.elf_read.specs.declared.exe.Exe.{Exe}
 use Rattle.br_outside.specs.Outside.{StreamView}
 use Rattle.br_outside.specs.Streams.{Streams, Gains}
-use Rattle.guest_sys.specs.Machine.{fed}
 use Rattle.guest_sys.specs.Calls.{asks, spare, Passes}
 use Rattle.guest_sys.specs.declared.answers.SysError.{SysError}
 use Rattle.guest_sys.specs.declared.answers.SysError.TheVariants as sys
 use Rattle.run_model.specs.Opening.{opening, arguments}
 use Rattle.run_model.specs.Edges.{edges_from}
 use Rattle.run_model.specs.Run.{run}
-use Rattle.guest_run.specs.declared.stop.Stop.{Stop}
-use Rattle.guest_run.specs.Guest.{GuestView, beginning, traps, asks_by, asks_next, ahead, while_running, answer_of, StepCall, AllSteady, OneFails, Unchanged, RunDone, RunFailsAt, Runs}
-use Rattle.guest_run.specs.BoundedRun.{edge_list, TakesSteps, RunStands, RunBreaks, StepsTold, StepsCome, BreakTold, BreakComes, StepsHold, RunsHold, BreaksHold}
+use Rattle.guest_run.specs.Guest.{GuestView, beginning, traps, asks_by, asks_next, ahead, while_running, OneFails, Unchanged, RunDone, RunFailsAt}
+use Rattle.guest_run.specs.BoundedRun.{edge_list, TakesSteps, StepsTold, StepsCome, BreakTold, BreakComes, StepsHold, RunsHold, BreaksHold}
 use Rattle.trace_file.specs.Edges.{Edge, collected}
 use Rattle.tracer.specs.declared.answers.Traced.{Traced}
 use Rattle.tracer.specs.declared.answers.TracingError.{TracingError}
 use Rattle.tracer.specs.declared.answers.TracingError.TheVariants as errors
-use Rattle.tracer.specs.declared.recorder.TheConstants.{EDGE_LIMIT}
-use Rattle.tracer.specs.TracedRun.{entry_edge, with_step, traced, error_of, AreFew, TraceStands, TracePasses, TraceBreaks, TraceWants, TracedRun, Faults}
+use Rattle.trace_file.specs.declared.limits.TheConstants.{FILE_EDGE_LIMIT}
+use Rattle.tracer.specs.TracedRun.{entry_edge, traced, error_of, AreFew, TraceStands, TracePasses, TraceBreaks, TraceWants, TracedRun, Faults}
 use Rattle.tracer.specs.TraceTold.{edges_in, TraceDone, TraceFull, TraceWanted, TraceGives}
 use Rattle.tracer.proofs.MoreEdges.{collected_append, collected_one, fewer_edges}
 
@@ -77,7 +75,7 @@ told_done n exe s t g h edges a b steps undefined is few same d = record {
 -- ---- the limit was passed
 
 told_full : (n : ℕ) (exe : Exe) (s : State) (taken : ℕ) (first edges : List Edge) (g k h : GuestView) (a now b : Streams) → taken < n → first ≡ edges_from taken s
-    → AreFew (collected first (entry_set exe)) → EDGE_LIMIT < length (collected edges (entry_set exe)) → StepsTold (suc taken) s edges g h a b → TraceFull n exe s a b
+    → AreFew (collected first (entry_set exe)) → FILE_EDGE_LIMIT < length (collected edges (entry_set exe)) → StepsTold (suc taken) s edges g h a b → TraceFull n exe s a b
 told_full n exe s taken first edges g k h a now b less is few passed d = record {
   taken = suc taken;
   most = omega (arith, less);
@@ -135,7 +133,7 @@ gives_done law t n exe words a b w =
     let runs = law t.stop n g w.guest a b refl refl w.run in (
       runs.0.ends.streams,
       both_told a.input.bytes (λ left. RunDone t.stop n (begun exe words left) g w.guest a b) (λ left. w.run.edges ≡ edges_from n (begun exe words left)) _
-      (λ left d same. told_done n exe (begun exe words left) t g w.guest w.run.edges a b refl refl w.answer w.few same d) runs.0.told runs.1,
+          (λ left d same. told_done n exe (begun exe words left) t g w.guest w.run.edges a b refl refl w.answer w.few same d) runs.0.told runs.1,
     )
 
 gives_full : StepsHold → (n : ℕ) (exe : Exe) (words : List (List ℕ)) (a b : Streams) → TracePasses n (beginning exe words) (entry_set exe) a b → Gives (Err errors.Union) n exe words a b
@@ -146,15 +144,15 @@ gives_full law n exe words a b w =
     let edges = w.edges ++ edge_list w.guest.edge in
     let before : StepsCome w.taken w.edges g w.last a w.now = law w.taken g w.last w.edges a w.now refl refl w.steps in
     let come : StepsCome (suc w.taken) edges g w.guest a b =
-        law (suc w.taken) g w.guest edges a b refl refl (record { first = w.edges; guest = w.last; now = w.now; before = w.steps; step = w.step; whole = refl }) in
-    let many : EDGE_LIMIT < length (collected edges es) = omega (
+    law (suc w.taken) g w.guest edges a b refl refl (record { first = w.edges; guest = w.last; now = w.now; before = w.steps; step = w.step; whole = refl }) in
+    let many : FILE_EDGE_LIMIT < length (collected edges es) = omega (
       arith,
       w.passed,
       ap length (collected_append w.edges (edge_list w.guest.edge) es ∙ collected_one w.guest.edge (collected w.edges es)),
     ) in (
       come.streams,
       both_told a.input.bytes (λ left. StepsTold w.taken (begun exe words left) w.edges g w.last a w.now) (λ left. StepsTold (suc w.taken) (begun exe words left) edges g w.guest a b) _
-      (λ left p q. told_full n exe (begun exe words left) w.taken w.edges edges g w.last w.guest a w.now b w.within p.edges_are w.few many q) before.told come.told,
+          (λ left p q. told_full n exe (begun exe words left) w.taken w.edges edges g w.last w.guest a w.now b w.within p.edges_are w.few many q) before.told come.told,
     )
 
 faults_as : (e : SysError) (a b : Streams) → OneFails e a b → Faults (Err (error_of e)) a b
@@ -171,7 +169,7 @@ gives_failed law breaks e n exe words a b w =
     let come : BreakComes e w.run.taken g w.guest a b = breaks e w.run.taken g w.run.last w.guest w.run.edges a w.run.now b refl refl w.run.steps w.run.failed in (
       faults_as e a b come.streams,
       both_told a.input.bytes (λ left. StepsTold w.run.taken (begun exe words left) w.run.edges g w.run.last a w.run.now) (λ left. BreakTold e w.run.taken (begun exe words left) w.guest a b) _
-      (λ left p q. told_failed e n w.run.taken exe (begun exe words left) w.run.edges w.guest a b w.run.within p.edges_are w.few q) before.told come.told,
+          (λ left p q. told_failed e n w.run.taken exe (begun exe words left) w.run.edges w.guest a b w.run.within p.edges_are w.few q) before.told come.told,
     )
 
 gives_wanted : StepsHold → (n : ℕ) (exe : Exe) (words : List (List ℕ)) (a b : Streams) → TraceWants n (beginning exe words) (entry_set exe) a b → Gives (Err errors.Memory) n exe words a b
@@ -180,7 +178,7 @@ gives_wanted law n exe words a b w =
     let come : StepsCome w.taken w.edges g w.guest a b = law w.taken g w.guest w.edges a b refl refl w.steps in (
       come.streams,
       each_told a.input.bytes (λ left. StepsTold w.taken (begun exe words left) w.edges g w.guest a b) _
-      (λ left p. told_wanted n w.taken exe (begun exe words left) w.edges g w.guest a b w.most w.few p) come.told,
+          (λ left p. told_wanted n w.taken exe (begun exe words left) w.edges g w.guest a b w.most w.few p) come.told,
     )
 
 pub gives : StepsHold → RunsHold → BreaksHold → (r : Result Traced TracingError) (n : ℕ) (exe : Exe) (words : List (List ℕ)) (a b : Streams)

@@ -12,7 +12,7 @@ use Rattle.run_model.specs.Edges.{edges_from}
 use Rattle.guest_run.specs.Guest.{ahead, answer_of, steps_taken, undefined_taken, RunFailsAt}
 use Rattle.trace_file.specs.Edges.{Edge, in_order}
 use Rattle.tracer.specs.TracedRun.{entry_edge, AreFew}
-use Rattle.tracer.specs.declared.recorder.TheConstants.{EDGE_LIMIT}
+use Rattle.trace_file.specs.declared.limits.TheConstants.{FILE_EDGE_LIMIT}
 use Rattle.tracer.specs.declared.answers.Traced.{Traced}
 use Rattle.tracer.specs.declared.answers.TracingError.{TracingError}
 use Rattle.tracer.specs.declared.answers.TracingError.TheVariants as errors
@@ -37,7 +37,7 @@ pub record TraceFull (n : ℕ) (exe : Exe) (s : State) (before after : Streams) 
   pub taken : ℕ
   pub most : taken ≤ n
   pub within : (k : ℕ) → k < taken → AreFew (edges_in exe s k)
-  pub passed : EDGE_LIMIT < length (edges_in exe s taken)
+  pub passed : FILE_EDGE_LIMIT < length (edges_in exe s taken)
   pub more : ℕ
   pub few : more ≤ ahead (run taken s [])
   pub streams : Passes (run taken s []) more before after

@@ -1,6 +1,5 @@
 -- A traced run over any objects: a guest takes steps, and the edge of each is recorded.
 use Rattle.std.specs.Prelude.{◌≡◌, ◌⊎◌, ◌<◌, ◌≤◌, ℕ, true, List, length, Option, Some, None, Result, Ok, Err}
-use Rattle.br_word.specs.State.{Running}
 use Rattle.elf_read.specs.declared.exe.Exe.{Exe}
 use Rattle.br_outside.specs.Streams.{Streams}
 use Rattle.guest_sys.specs.declared.answers.SysError.{SysError}
@@ -11,7 +10,7 @@ use Rattle.trace_file.specs.Edges.{Edge, with_edge, collected}
 use Rattle.tracer.specs.declared.answers.Traced.{Traced}
 use Rattle.tracer.specs.declared.answers.TracingError.{TracingError}
 use Rattle.tracer.specs.declared.answers.TracingError.TheVariants as errors
-use Rattle.tracer.specs.declared.recorder.TheConstants.{EDGE_LIMIT}
+use Rattle.trace_file.specs.declared.limits.TheConstants.{FILE_EDGE_LIMIT}
 
 -- that the run of an executable began
 abbrev pub entry_edge : Exe → Edge
@@ -26,6 +25,7 @@ with_step (Some e) es = with_edge e es
 abbrev pub traced : GuestView → List Edge → Traced
 traced g es = record { edges = es; stop = answer_of g.state.stop; steps = g.steps; undefined = g.undefined }
 
+-- why a run was not traced, where a step failed
 abbrev pub error_of : SysError → TracingError
 error_of sys.Input = errors.Input
 error_of sys.Out = errors.Out
@@ -34,7 +34,7 @@ error_of sys.Memory = errors.Memory
 
 -- the edges are no more than the limit
 abbrev pub AreFew : List Edge → Type 0
-AreFew es = length es ≤ EDGE_LIMIT
+AreFew es = length es ≤ FILE_EDGE_LIMIT
 
 -- at most n steps were taken, and their edges are recorded beside those of es
 pub record TraceStands (t : Traced) (n : ℕ) (g : GuestView) (es : List Edge) (before after : Streams) : Type 0 where
@@ -54,7 +54,7 @@ pub record TracePasses (n : ℕ) (g : GuestView) (es : List Edge) (before after 
   pub few : AreFew (collected edges es)
   pub guest : GuestView
   pub step : StepCall (Ok true) 0 last guest now after
-  pub passed : EDGE_LIMIT < length (with_step guest.edge (collected edges es))
+  pub passed : FILE_EDGE_LIMIT < length (with_step guest.edge (collected edges es))
 
 -- the next step failed
 pub record TraceBreaks (e : SysError) (n : ℕ) (g : GuestView) (es : List Edge) (before after : Streams) : Type 0 where
@@ -95,6 +95,7 @@ pub record Recorded (n : ℕ) (g h : GuestView) (es hs : List Edge) (before afte
   pub edges : hs ≡ collected run.edges es
   pub few : AreFew hs
 
+-- what a guest that is followed comes to
 abbrev pub Follows : Result (Unit {0}) TracingError → ℕ → GuestView → GuestView → List Edge → List Edge → Streams → Streams → Type 0
 Follows (Ok _) n g h es hs before after = Recorded n g h es hs before after
 Follows (Err e) n g h es hs before after = TracedRun (Err e) n g es before after

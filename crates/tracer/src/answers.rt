@@ -30,7 +30,7 @@ pub enum TracingError {
     /// The report failed.
     #[error("report")]
     Report,
-    /// The edges are more than [`EDGE_LIMIT`](crate::EDGE_LIMIT).
+    /// The edges are more than [`FILE_EDGE_LIMIT`](trace_file::FILE_EDGE_LIMIT).
     #[error("too many edges")]
     Union,
     /// Want of memory.

@@ -6,7 +6,6 @@ mod recorder;
 mod tracing;
 
 pub use answers::{Traced, TracingError};
-pub use recorder::EDGE_LIMIT;
 pub use tracing::trace;
 
 #[cfg(test)]

@@ -7,11 +7,12 @@ ghost use Rattle.tracer.specs.TracedRun.{TracedRun, Faults, Follows, entry_edge}
 ghost use Rattle.tracer.specs.TraceTold.{TraceGives};
 
 use crate::answers::{Traced, TracingError};
-use crate::recorder::{EDGE_LIMIT, Recorder};
+use crate::recorder::Recorder;
 use br_outside::{Sink, Source};
 use elf_read::Exe;
 use guest_run::{Guest, STEP_LIMIT, breaks_hold, runs_hold, steps_hold};
 use std::alloc::Global;
+use trace_file::FILE_EDGE_LIMIT;
 
 /// Lets the guest take at most `budget` steps while it runs, and records their edges.
 fn follow<I: Source, O: Sink, E: Sink>(
@@ -24,7 +25,7 @@ fn follow<I: Source, O: Sink, E: Sink>(
 ) -> Result<(), TracingError>
     requires live { guest.old.live ≡ true }
     requires room { guest.old.steps + budget ≤ STEP_LIMIT }
-    requires few { length recorder.old ≤ EDGE_LIMIT }
+    requires few { length recorder.old ≤ FILE_EDGE_LIMIT }
     ensures { Follows result budget guest.old guest.new recorder.old recorder.new
         (streams (I.seen input.old) (O.seen out.old) (E.seen err.old)) (streams (I.seen input.new) (O.seen out.new) (E.seen err.new)) }
 {
@@ -51,8 +52,8 @@ fn trace_guest<I: Source, O: Sink, E: Sink>(
 ) -> Result<Traced, TracingError>
     requires live { guest.live ≡ true }
     requires room { guest.steps + budget ≤ STEP_LIMIT }
-    requires few { length recorder ≤ EDGE_LIMIT }
-    ensures few { IfOk result (λ t. length t.edges ≤ EDGE_LIMIT) }
+    requires few { length recorder ≤ FILE_EDGE_LIMIT }
+    ensures few { IfOk result (λ t. length t.edges ≤ FILE_EDGE_LIMIT) }
     ensures steps { TracedRun result budget guest recorder (streams (I.seen input.old) (O.seen out.old) (E.seen err.old))
         (streams (I.seen input.new) (O.seen out.new) (E.seen err.new)) }
 {
@@ -78,7 +79,7 @@ fn trace_opened<I: Source, O: Sink, E: Sink>(
     requires exe { IsGuest exe.now }
     requires args { FitArguments (map string_bytes args.now) }
     requires budget { budget ≤ STEP_LIMIT }
-    ensures few { IfOk result (λ t. length t.edges ≤ EDGE_LIMIT) }
+    ensures few { IfOk result (λ t. length t.edges ≤ FILE_EDGE_LIMIT) }
     ensures steps { TracedRun result budget (beginning exe.now (map string_bytes args.now)) (entry_edge exe.now ∷ [])
         (streams (I.seen input.old) (O.seen out.old) (E.seen err.old)) (streams (I.seen input.new) (O.seen out.new) (E.seen err.new)) }
 {
@@ -96,7 +97,7 @@ fn trace_opened<I: Source, O: Sink, E: Sink>(
 /// memory. Reads take their bytes of `input`, and writes give theirs to `out` (descriptor 1) or `err`
 /// (descriptor 2), as a run without a trace does.
 ///
-/// Errors: `Union` exactly at the step where there are more than [`EDGE_LIMIT`] distinct edges; input and sinks
+/// Errors: `Union` exactly at the step where there are more than [`FILE_EDGE_LIMIT`] distinct edges; input and sinks
 /// are then as that step leaves them. `Input`, `Out` and `Report` where that object failed, and `Memory`
 /// for want of memory; a front part of the bytes of the step that failed may have been taken or written.
 /// `Input`, `Out` and `Report` leave the counts of faults of the other objects as they were, and every other
@@ -113,7 +114,7 @@ pub fn trace<I: Source, O: Sink, E: Sink>(
     requires exe { IsGuest exe.now }
     requires args { FitArguments (map string_bytes args.now) }
     requires budget { budget ≤ STEP_LIMIT }
-    ensures few { IfOk result (λ t. length t.edges ≤ EDGE_LIMIT) }
+    ensures few { IfOk result (λ t. length t.edges ≤ FILE_EDGE_LIMIT) }
     ensures steps { TracedRun result budget (beginning exe.now (map string_bytes args.now)) (entry_edge exe.now ∷ [])
         (streams (I.seen input.old) (O.seen out.old) (E.seen err.old)) (streams (I.seen input.new) (O.seen out.new) (E.seen err.new)) }
     ensures faults { Faults result (streams (I.seen input.old) (O.seen out.old) (E.seen err.old))

@@ -25,12 +25,12 @@ loop-step-preserved g c =
     }
 
 pub returns-in-Err-clause-steps : goal.returns-in-Err-clause-steps
-returns-in-Err-clause-steps g c = breaks_at _ _ _ _ _ _ _ _ _ (omega arith) c.loop-step.invariant.taken c.in-Err.ensures
+returns-in-Err-clause-steps g c = breaks_at _ _ _ _ _ _ _ _ _ _ (omega arith) c.loop-step.invariant.taken c.in-Err.ensures
 
 pub returns-in-Err-clause-told : goal.returns-in-Err-clause-told
 returns-in-Err-clause-told g c =
     run_holds _ _ _ _ _ _ c.loop-step.invariant.began.0 c.loop-step.invariant.began.1
-    (breaks_at _ _ _ _ _ _ _ _ _ (omega arith) c.loop-step.invariant.taken c.in-Err.ensures)
+    (breaks_at _ _ _ _ _ _ _ _ _ _ (omega arith) c.loop-step.invariant.taken c.in-Err.ensures)
 
 pub returns-in-Ok-false-clause-steps : goal.returns-in-Ok-false-clause-steps
 returns-in-Ok-false-clause-steps g c =
