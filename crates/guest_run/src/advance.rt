@@ -30,7 +30,9 @@ pub enum Code {
 /// What a step comes to: how the guest stands, and the edge of the step.
 #[derive(Clone, Copy, Debug, PartialEq, Eq)]
 pub struct Advanced {
+    /// How the guest stands: `Budget` while it runs.
     pub stop: Stop,
+    /// The site and the target of a transfer that did not fault.
     pub edge: Option<(u32, u32)>,
 }
 
@@ -89,7 +91,8 @@ fn trap<I: Source, O: Sink, E: Sink>(
     out: &mut O,
     err: &mut E,
 ) -> Result<Advanced, SysError>
-    ensures { Trap at result (machine cpu.old memory.old (I.seen input.old) (O.seen out.old) (E.seen err.old)) (machine cpu.new memory.new (I.seen input.new) (O.seen out.new) (E.seen err.new)) }
+    ensures { Trap at result (machine cpu.old memory.old (I.seen input.old) (O.seen out.old) (E.seen err.old))
+        (machine cpu.new memory.new (I.seen input.new) (O.seen out.new) (E.seen err.new)) }
 {
     let stop = match system(alloc, cpu, memory, input, out, err) {
         Err(error) => {
@@ -120,7 +123,9 @@ fn carry_out<I: Source, O: Sink, E: Sink>(
 ) -> Result<Advanced, SysError>
     requires valid { IsTrue (valid_of inst.now) }
     requires room { cpu.old.undefined < 2 ^ 64 - 1 }
-    ensures { Advance (There inst.now len) result choice (machine cpu.old memory.old (I.seen input.old) (O.seen out.old) (E.seen err.old)) (machine cpu.new memory.new (I.seen input.new) (O.seen out.new) (E.seen err.new)) }
+    ensures { Advance (There inst.now len) result choice
+        (machine cpu.old memory.old (I.seen input.old) (O.seen out.old) (E.seen err.old))
+        (machine cpu.new memory.new (I.seen input.new) (O.seen out.new) (E.seen err.new)) }
 {
     let at = cpu.eip;
     match execute(inst, len, cpu, memory, choice) {
@@ -144,7 +149,9 @@ pub fn advance<I: Source, O: Sink, E: Sink>(
     err: &mut E,
 ) -> Result<Advanced, SysError>
     requires { cpu.old.undefined < 2 ^ 64 - 1 }
-    ensures { Advance (found cpu.old.eip memory.old.regions) result choice (machine cpu.old memory.old (I.seen input.old) (O.seen out.old) (E.seen err.old)) (machine cpu.new memory.new (I.seen input.new) (O.seen out.new) (E.seen err.new)) }
+    ensures { Advance (found cpu.old.eip memory.old.regions) result choice
+        (machine cpu.old memory.old (I.seen input.old) (O.seen out.old) (E.seen err.old))
+        (machine cpu.new memory.new (I.seen input.new) (O.seen out.new) (E.seen err.new)) }
 {
     match code_at(memory, cpu.eip) {
         Code::Missing => Ok(faulted(GuestFault::Access(cpu.eip))),

@@ -1,6 +1,5 @@
 //! The edges of a run as they come.
 ghost use Rattle.std.specs.Prelude.{◌≡◌, ◌≤◌, length, IfOk, [], ◌∷◌};
-ghost use Rattle.tracer.specs.Tour.{edge_limit};
 ghost use Rattle.tracer.specs.Records.{Records};
 
 use crate::answers::TracingError;
@@ -9,10 +8,10 @@ use std::collections::BTreeSet;
 use std::marker::Model;
 use trace_file::Edges;
 
-/// The most edges that are recorded.
-const EDGE_LIMIT: usize = 2000000;
+/// The most edges that are recorded: as many as a trace file holds.
+pub const EDGE_LIMIT: usize = 2000000;
 
-/// A set of at most 2000000 edges, seen as the list of them in order.
+/// A set of at most [`EDGE_LIMIT`] edges, seen as the list of them in order.
 #[derive(Drop)]
 pub struct Recorder {
     edges: BTreeSet<(u32, u32), Global>,
@@ -21,13 +20,12 @@ pub struct Recorder {
 impl Model for Recorder {
     ghost use Rattle.std.specs.Prelude.{List, ◌≤◌, length};
     ghost use Rattle.trace_file.specs.Edges.{Edge};
-    ghost use Rattle.tracer.specs.Tour.{edge_limit};
-
+    
     ghost Value = { List Edge };
 
     ghost view = { λ r. r.edges.keys };
 
-    ghost invariant = { λ r. length r.edges.keys ≤ edge_limit };
+    ghost invariant = { λ r. length r.edges.keys ≤ EDGE_LIMIT };
 }
 
 impl Recorder {
@@ -40,7 +38,7 @@ impl Recorder {
         Ok(Recorder { edges })
     }
 
-    /// Records an edge. Errors: `Union` where there would be more than 2000000, and `Memory`; the edges are
+    /// Records an edge. Errors: `Union` where there would be more than [`EDGE_LIMIT`], and `Memory`; the edges are
     /// then as before.
     pub fn add(&mut self, edge: (u32, u32)) -> Result<(), TracingError>
         ensures { Records result edge self.old self.new }
@@ -57,7 +55,7 @@ impl Recorder {
     /// The edges in order. The only error is want of memory.
     pub fn edges(&self, alloc: Global) -> Result<Edges, AllocError>
         ensures value { IfOk result (λ edges. edges ≡ self.now) }
-        ensures few { IfOk result (λ edges. length edges ≤ edge_limit) }
+        ensures few { IfOk result (λ edges. length edges ≤ EDGE_LIMIT) }
     {
         let mut list = Vec::with_capacity(alloc, self.edges.len())?;
         for edge in &self.edges {

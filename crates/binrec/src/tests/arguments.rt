@@ -39,7 +39,7 @@ fn takes_words_of_text(rt: HostRuntime) -> Result<(), Fail> {
         words: &[b"binrec", b"run", b"\xc3\xa4", b"", &long],
     };
     let read = read_arguments(alloc, &line)?;
-    assert!(rt; !read.broken);
+    assert!(rt; read.broken.is_none());
     assert_eq!(rt; read.texts.len(), 4);
     assert_eq!(rt; read.texts.get(1).map(|word| word.as_bytes()), Some(b"\xc3\xa4".as_slice()));
     assert_eq!(rt; read.texts.get(2).map(|word| word.len()), Some(0));
@@ -59,9 +59,11 @@ fn refuses_words_that_are_no_text(rt: HostRuntime) -> Result<(), Fail> {
     ];
     for (words, line) in stated {
         let read = read_arguments(alloc, &Line { words })?;
-        assert!(rt; read.broken);
+        let Some(position) = read.broken else {
+            panic!(rt; "{}", line);
+        };
         let mut report = MemSink::new(alloc, Vec::new(alloc));
-        let status = tell_broken(&mut report, &read.texts);
+        let status = tell_broken(&mut report, &read.texts, position);
         assert_eq!(rt; status.0, 1);
         assert_eq!(rt; report.written(), line.as_bytes());
     }

@@ -1,6 +1,6 @@
 use Rattle.std.proofs.Common.{◌≡◌, None}
 use Rattle.br_word.specs.Memory.{Runs, bytes_at}
-use Rattle.guest_run.proofs.Codes.{code_found, code_unread, code_inst}
+use Rattle.guest_run.proofs.FetchedCode.{code_found, code_unread, code_inst}
 use Rattle.guest_run.proofs.advance.code_at.Goals as goal
 
 pub returns-in-None : goal.returns-in-None

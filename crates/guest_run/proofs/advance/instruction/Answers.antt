@@ -1,5 +1,5 @@
 use Rattle.std.proofs.Common.{arith}
-use Rattle.guest_run.proofs.Codes.{valid_read}
+use Rattle.guest_run.proofs.FetchedCode.{valid_read}
 use Rattle.guest_run.proofs.advance.instruction.Goals as goal
 
 pub returns-clause-valid : goal.returns-clause-valid

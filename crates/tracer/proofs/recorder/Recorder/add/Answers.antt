@@ -1,5 +1,5 @@
 use Rattle.std.proofs.Common.{refl, sym, ◌∙◌, inl, inr, arith}
-use Rattle.tracer.proofs.Recorded.{HasRoom, record_full, record_done, record_wants}
+use Rattle.tracer.proofs.EdgeSets.{HasRoom, record_full, record_done, record_wants}
 use Rattle.tracer.proofs.recorder.Recorder.add.Goals.{in-Ok, in-Err, else-len-ge-EDGE_LIMIT-via-then-len-ge-EDGE_LIMIT+else-not-contains, else-len-ge-EDGE_LIMIT-via-else-len-ge-EDGE_LIMIT}
 use Rattle.tracer.proofs.recorder.Recorder.add.Goals as goal
 
