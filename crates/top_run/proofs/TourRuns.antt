@@ -103,7 +103,7 @@ taken_on last zero m n g h es edges v before after o u all w few went =
 taken_on last (suc k) m n g h es edges v before after o u all w few went =
     let first = collected w.first es in
     let same : collected edges es ≡ with_step h.edge first =
-        ap (λ xs. collected xs es) w.whole ∙ (collected_append w.first (edge_list h.edge) es ∙ collected_one h.edge first) in
+    ap (λ xs. collected xs es) w.whole ∙ (collected_append w.first (edge_list h.edge) es ∙ collected_one h.edge first) in
     let fit : length (with_step h.edge first) ≤ FILE_EDGE_LIMIT = omega (arith, few, ap length same) in
     let before_fit : length first ≤ FILE_EDGE_LIMIT = omega (arith, fit, grows (edge_list h.edge) first, ap length (collected_one h.edge first)) in
     let P : List Edge → Type 0 = λ xs. Went (tour_plan last m h xs) (with_streams v after) o u in

@@ -41,7 +41,10 @@ fn takes_words_of_text(rt: HostRuntime) -> Result<(), Fail> {
     let read = read_arguments(alloc, &line)?;
     assert!(rt; read.broken.is_none());
     assert_eq!(rt; read.texts.len(), 4);
-    assert_eq!(rt; read.texts.get(1).map(|word| word.as_bytes()), Some(b"\xc3\xa4".as_slice()));
+    assert_eq!(rt;
+        read.texts.get(1).map(|word| word.as_bytes()),
+        Some(b"\xc3\xa4".as_slice())
+    );
     assert_eq!(rt; read.texts.get(2).map(|word| word.len()), Some(0));
     assert_eq!(rt; read.texts.get(3).map(|word| word.len()), Some(70000));
     Ok(())
@@ -53,7 +56,10 @@ fn refuses_words_that_are_no_text(rt: HostRuntime) -> Result<(), Fail> {
     let stated: [(&[&[u8]], &str); 5] = [
         (&[b"binrec", b"\xff"], "usage 0\n"),
         (&[b"binrec", b"build", b"\xc3", b"E"], "usage 1\n"),
-        (&[b"binrec", b"run", b"E", b"a", b"\xed\xa0\x80"], "usage 3\n"),
+        (
+            &[b"binrec", b"run", b"E", b"a", b"\xed\xa0\x80"],
+            "usage 3\n",
+        ),
         (&[b"binrec", b"frob", b"\xff"], "usage 0\n"),
         (&[b"binrec", b"show", b"", b"\xff"], "usage 1\n"),
     ];
