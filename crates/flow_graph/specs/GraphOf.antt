@@ -50,9 +50,9 @@ graph_of exe edges = nodes_from exe (counting exe edges)
 -- code
 pub record OneGraph : Type 0 where
   pub starts : (exe : Exe) (edges : List Edge) → IsGuest exe
-    → AreStarts exe (counting exe edges) (starts_in (graph_of exe edges))
+      → AreStarts exe (counting exe edges) (starts_in (graph_of exe edges))
   pub only : (exe : Exe) (edges : List Edge) (g : List Node) → IsGuest exe
-    → IsGraph exe (counting exe edges) g → g ≡ graph_of exe edges
+      → IsGraph exe (counting exe edges) g → g ≡ graph_of exe edges
   pub many : (exe : Exe) (edges : List Edge) → IsGuest exe
-    → HasTooMany exe (counting exe edges) ↔ (MAX_BLOCKS < length (graph_of exe edges))
+      → HasTooMany exe (counting exe edges) ↔ (MAX_BLOCKS < length (graph_of exe edges))
   pub code : (exe : Exe) (edges : List Edge) → AreCode exe (graph_of exe edges)

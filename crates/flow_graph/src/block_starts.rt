@@ -27,11 +27,7 @@ fn keep(blocks: &mut BTreeMap<u32, Cut>, start: u32, block: Cut) -> Result<(), A
 
 /// Adds a start and what is reached from it to starts that are closed under following starts. Each block is
 /// cut once.
-fn add_start(
-    exe: &Exe,
-    blocks: &mut BTreeMap<u32, Cut>,
-    start: u32,
-) -> Result<(), GraphError>
+fn add_start(exe: &Exe, blocks: &mut BTreeMap<u32, Cut>, start: u32) -> Result<(), GraphError>
     requires guest { IsGuest exe.now }
     requires code { IsTrue (is_exec start exe.now.segments) }
     requires few { btree_map_len blocks.old ≤ MAX_BLOCKS }
