@@ -4,12 +4,10 @@ use Rattle.std.specs.Prelude.{Option, IfSome, IsTrue}
 use Rattle.std.specs.Bool.{then_some}
 use Rattle.elf_read.specs.declared.exe.Exe.{Exe}
 use Rattle.elf_read.specs.Elf.{IsGuest, is_exec}
-use Rattle.ia_inst.specs.declared.inst.Inst.{Inst}
-use Rattle.ia_inst.specs.Step.{There}
 use Rattle.block_cut.specs.declared.ends.End.{End}
 use Rattle.block_cut.specs.declared.ends.End.TheVariants.{Transfer, Island, BeforeIsland, Unreadable, Full}
 use Rattle.block_cut.specs.declared.ends.Cut.{Cut}
-use Rattle.block_cut.specs.Places.{Placed, found_at, inst_found}
+use Rattle.block_cut.specs.Places.{Placed, inst_found}
 use Rattle.block_cut.specs.Blocks.{size_of, StandFrom, EndsSo, block_of, cut_of, is_followed, next_of, follow_of, EachFollowsAbove}
 use Rattle.block_cut.proofs.Standing.{HasBytes, inside, found_size}
 use Rattle.block_cut.proofs.Unique.{block_is, size_cons}

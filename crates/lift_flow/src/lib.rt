@@ -4,6 +4,6 @@
 
 /// How far blocks go, where their transfers lead, and which edges count.
 pub use block_cut::{
-    Cut, End, MAX_INSTRUCTIONS, Spelled, address_behind, counts, cut, following_start, instruction_at,
-    leads, one_block, start_behind,
+    Cut, End, MAX_INSTRUCTIONS, Spelled, address_behind, counts, cut, following_start,
+    instruction_at, leads, one_block, start_behind,
 };
