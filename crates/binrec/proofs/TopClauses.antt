@@ -19,7 +19,7 @@ use Rattle.top_graph.specs.MergePlan.{merge_plan}
 use Rattle.top_graph.specs.MergeMeaning.{MeansMerge}
 use Rattle.top_graph.specs.ShowPlan.{show_plan}
 use Rattle.top_graph.specs.ShowMeaning.{MeansShow}
-use Rattle.binrec.specs.Words.{asked_by}
+use Rattle.binrec.specs.Words.{IsFitting, asked_by}
 use Rattle.binrec.specs.Commands.{plan_of, planned, plan}
 use Rattle.binrec.specs.Meaning.{MeansUsage}
 use Rattle.binrec.proofs.UsageMeant.{NeverOne, means_usage}
@@ -41,6 +41,10 @@ asked_of_words P words asked is p = let Q : Result Asked ℕ → Type 0 = λ r. 
 -- a command is what it was matched as
 pub answers_as : (command read : Command) (word : ℕ) (s : World) (result : ℕ) (t : World) → command ≡ read → Answered (plan_of (asked_of read) word) s result t → Answered (plan_of (asked_of command) word) s result t
 answers_as command read word s result t is h = let P : Command → Type 0 = λ c. Answered (plan_of (asked_of c) word) s result t in subst P (sym is) h
+
+-- what it is given fits
+pub fits_as : (command read : Command) → command ≡ read → IsFitting (asked_of command) → IsFitting (asked_of read)
+fits_as command read is h = let P : Command → Type 0 = λ c. IsFitting (asked_of c) in subst P is h
 
 -- ---- the laws
 

@@ -1,5 +1,5 @@
 -- What the words give a command: arguments that fit, a number of steps of at most 18 digits, and at most 4096 traces.
-use Rattle.std.proofs.Common.{◌≡◌, ◌<◌, ◌≤◌, ◌+◌, ◌-◌, ◌*◌, ◌^◌, ◌&&◌, ◌||◌, if◌then◌else◌, nat_le, nat_lt, not, ℕ, min, suc, Bool, true, false, cond, List, [], ◌∷◌, ◌++◌, length, map, codes, Option, Some, None, Result, Ok, Err, refl, sym, ◌∙◌, ap, subst, arith, lit<, lit≤, length-append}
+use Rattle.std.proofs.Common.{◌≡◌, ◌<◌, ◌≤◌, ◌+◌, ◌-◌, ◌*◌, ◌^◌, ◌&&◌, ◌||◌, if◌then◌else◌, nat_le, nat_lt, not, ℕ, suc, Bool, true, false, cond, List, [], ◌∷◌, ◌++◌, length, map, codes, Option, Some, None, Result, Ok, Err, refl, sym, ◌∙◌, ap, subst, arith, lit<, lit≤, length-append}
 use Rattle.std.proofs.lemmas.Bool.{leb-true, leb-false, ltb-false}
 use Rattle.std.proofs.Math.Nat.{mul-le-mul_right, pow-succ', pow-le-pow_right, mul_assoc}
 use Rattle.std.specs.Str.{bytes_eq}
@@ -7,7 +7,7 @@ use Rattle.std.specs.Int.Digits.{number_from_digits_after}
 use Rattle.run_model.specs.Opening.{FitArguments, texts, arguments}
 use Rattle.word_reader.specs.Numbers.{are_digits, is_digit, number_of_digits, number_in}
 use Rattle.word_reader.specs.Words.{Asked, Builds, Traces, Runs, Merges, Shows, Sessions, Demos, is_name, next_name, no_more, unless_wrong, or_wrong, first_no_argument, first_no_trace, traces_at, arguments_at, own_bytes, steps_behind, next_steps, build_words, trace_words, run_words, merge_words, show_words, session_words, demo_words, demo_count, command, is_steps, first_name}
-use Rattle.binrec.specs.Words.{Fits, IsFitting, words_taken, within, asked_by}
+use Rattle.binrec.specs.Words.{Fits, IsFitting}
 
 -- ---- tests
 
@@ -177,21 +177,10 @@ fit_command (word ∷ words) =
     fit_cond (bytes_eq word (codes "session")) (session_words words) _ (fit_session words) (
     fit_cond (bytes_eq word (codes "demo")) (demo_words words) (Err 0) (fit_demo words) tt))))))
 
--- what is asked for was read as that
-read_as : (taken : Option ℕ) (count : ℕ) (r : Result Asked ℕ) (asked : Asked) → within taken count r ≡ Ok asked → r ≡ Ok asked
-read_as None count r asked h = h
-read_as (Some taken) count (Ok read) asked h = by_count (nat_le count taken) h
-  where
-    by_count : (b : Bool) → (let r : Result Asked ℕ = cond b (Ok read) (Err taken) in r) ≡ Ok asked → (let r : Result Asked ℕ = Ok read in r) ≡ Ok asked
-    by_count true h = h
-    by_count false h = absurd (let z : (let x : Result Asked ℕ = Err taken in x) ≡ Ok asked = h in cc)
-read_as (Some taken) count (Err at) asked h = absurd (let z : (let x : Result Asked ℕ = Err (min at taken) in x) ≡ Ok asked = h in cc)
-
--- what a command of these words is given fits
-pub fit_asked : (words : List (List ℕ)) (asked : Asked) → asked_by words ≡ Ok asked → IsFitting asked
+-- what a command that was read is given fits
+pub fit_read : (words : List (List ℕ)) (asked : Asked) → command words ≡ Ok asked → IsFitting asked
 unfolding Fit
-fit_asked [] asked is = absurd (let z : (let x : Result Asked ℕ = Err 0 in x) ≡ Ok asked = is in cc)
-fit_asked (word ∷ words) asked is = let P : Fit (Ok asked) = subst Fit (read_as (words_taken word) (length words + 1) (command (word ∷ words)) asked is) (fit_command (word ∷ words)) in P
+fit_read words asked is = let h : Fit (Ok asked) = subst Fit is (fit_command words) in h
 
 -- ---- positions
 

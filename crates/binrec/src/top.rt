@@ -57,7 +57,7 @@ fn answer<F: Shelf, I: Source, O: Sink, R: Sink>(
 ) -> u8
     requires fitting { IsFitting (asked_of command) }
     requires first { first ≤ 3 }
-    ensures { Answered (plan_of (asked_of command) first)
+    ensures { Answered (plan_of (asked_of command.entry) first)
         (world (F.seen shelf.old) (I.seen input.old) (O.seen out.old) (R.seen report.old)) result
         (world (F.seen shelf.new) (I.seen input.new) (O.seen out.new) (R.seen report.new)) }
 {

@@ -1,4 +1,5 @@
-use Rattle.std.proofs.Common.{◌+◌, map, string_bytes, refl, arith}
+use Rattle.std.proofs.Common.{◌+◌, ◌≤◌, length, map, string_bytes, refl, arith}
+use Rattle.std.proofs.lemmas.List.{length-map}
 use Rattle.top_plan.specs.World.{world}
 use Rattle.top_plan.specs.Texts.{end_of}
 use Rattle.top_plan.specs.Happened.{Happened}
@@ -7,8 +8,31 @@ use Rattle.top_run.specs.RunPlan.{run_plan}
 use Rattle.top_run.specs.TracePlan.{trace_plan}
 use Rattle.top_graph.specs.MergePlan.{merge_plan}
 use Rattle.top_graph.specs.ShowPlan.{show_plan}
-use Rattle.binrec.proofs.TopClauses.{answers_as}
+use Rattle.binrec.specs.Words.{Fits}
+use Rattle.binrec.proofs.TopClauses.{answers_as, fits_as}
 use Rattle.binrec.proofs.top.answer.Goals as goal
+
+pub merge_command-requires : goal.merge_command-requires
+merge_command-requires g c =
+    let few : length (map string_bytes c.in-Merge.traces.now) ≤ 4096 = fits_as _ _ c.in-Merge.is c.requires.fitting in
+    omega (arith, few, length-map c.in-Merge.traces.now string_bytes)
+
+pub show_command-requires : goal.show_command-requires
+show_command-requires g c =
+    let few : length (map string_bytes c.in-Show.traces.now) ≤ 4096 = fits_as _ _ c.in-Show.is c.requires.fitting in
+    omega (arith, few, length-map c.in-Show.traces.now string_bytes)
+
+pub run_command-requires-clause-fit : goal.run_command-requires-clause-fit
+run_command-requires-clause-fit g c = let fits : Fits c.in-Run.steps (map string_bytes c.in-Run.args.now) = fits_as _ _ c.in-Run.is c.requires.fitting in fits.fit
+
+pub run_command-requires-clause-few : goal.run_command-requires-clause-few
+run_command-requires-clause-few g c = let fits : Fits c.in-Run.steps (map string_bytes c.in-Run.args.now) = fits_as _ _ c.in-Run.is c.requires.fitting in fits.few
+
+pub trace_command-requires-clause-fit : goal.trace_command-requires-clause-fit
+trace_command-requires-clause-fit g c = let fits : Fits c.in-Trace.steps (map string_bytes c.in-Trace.args.now) = fits_as _ _ c.in-Trace.is c.requires.fitting in fits.fit
+
+pub trace_command-requires-clause-few : goal.trace_command-requires-clause-few
+trace_command-requires-clause-few g c = let fits : Fits c.in-Trace.steps (map string_bytes c.in-Trace.args.now) = fits_as _ _ c.in-Trace.is c.requires.fitting in fits.few
 
 pub returns-in-Build : goal.returns-in-Build
 returns-in-Build g c =

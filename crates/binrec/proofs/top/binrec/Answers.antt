@@ -1,9 +1,13 @@
-use Rattle.std.proofs.Common.{Err, map, string_bytes, refl}
+use Rattle.std.proofs.Common.{Err, map, string_bytes, refl, arith}
 use Rattle.top_plan.specs.World.{world}
 use Rattle.top_plan.specs.Happened.{Answered}
 use Rattle.word_reader.specs.Reads.{asked_of}
+use Rattle.binrec.proofs.WordsFit.{first_few}
 use Rattle.binrec.proofs.TopClauses.{asked_for, not_asked, all_of}
 use Rattle.binrec.proofs.top.binrec.Goals as goal
+
+pub answer-requires-clause-first : goal.answer-requires-clause-first
+answer-requires-clause-first g c = let few = first_few (map string_bytes c.args.words.now) in omega (arith, few, c.first_name-first.ensures)
 
 pub returns-in-Ok : goal.returns-in-Ok
 returns-in-Ok g c =
