@@ -14,3 +14,5 @@ pub mod Kept
 pub mod Costs
 pub mod Examples
 pub mod Outs
+pub mod Making
+pub mod Closed
