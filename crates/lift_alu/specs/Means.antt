@@ -11,7 +11,8 @@ use Rattle.ia_inst.specs.Kinds.{flags_read}
 use Rattle.ia_inst.specs.Step.{AllMarked, next_eip}
 use Rattle.ssa_form.specs.declared.form.Line.{Line}
 use Rattle.ssa_form.specs.Value.{Env, fold, AllAllowed, numbered, outs_of, exit_of}
-use Rattle.ssa_form.specs.Agree.{AgreesOn, AreBits, AreRegs, every}
+use Rattle.ssa_form.specs.Agree.{AgreesOn, AreBits, every}
+use Rattle.ia_inst.specs.Fits.{AreRegs}
 use Rattle.ssa_form.specs.Same.{HoldsBytes}
 use Rattle.ssa_form.specs.declared.form.Block.{Block}
 use Rattle.lift_alu.specs.Lifted.{lifted}

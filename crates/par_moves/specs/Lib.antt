@@ -1,0 +1,3 @@
+pub mod Locations
+pub mod Homes
+pub mod Moves

@@ -1,0 +1,47 @@
+//! The states of a guest's runs, and where they lead in its executable.
+//!
+//! Each law is the contract of a call that does nothing but name the laws that it rests on.
+
+ghost use Rattle.sim_laws.specs.ByKind.{EachGoesByKind};
+ghost use Rattle.sim_laws.specs.InCode.{StaysInCode, StepsInCode};
+ghost use Rattle.sim_laws.specs.Counted.{EdgeCounts, EdgesCount};
+ghost use Rattle.sim_laws.specs.Through.{GoesThrough, RunsThrough};
+
+use block_cut::one_block;
+use run_model::{keeps_sound, opens_soundly};
+
+/// The states of a run of an accepted file of bytes are sound, and at each address stands what stands
+/// there in its executable; `step` says it of any such state, whatever bits undefined flags take.
+pub fn stays_in_code()
+    ensures run { StaysInCode }
+    ensures step { StepsInCode }
+{
+    keeps_sound();
+    opens_soundly();
+}
+
+/// A plain instruction goes on behind itself, a native one there or to itself again, a transfer where
+/// it may lead. DF stays but at plain ones, and nothing is seen but of a system call.
+pub fn goes_by_kind()
+    ensures { EachGoesByKind }
+{}
+
+/// The edges of a run count where they lead to code, and so does the pair that says that it began.
+pub fn edges_count()
+    ensures step { EdgeCounts }
+    ensures run { EdgesCount }
+{
+    goes_by_kind();
+    stays_in_code();
+}
+
+/// A well-defined run goes through plain instructions one by one, and through a block that is not
+/// native; nothing is seen of it.
+pub fn runs_through()
+    ensures plain { RunsThrough }
+    ensures through { GoesThrough }
+{
+    goes_by_kind();
+    stays_in_code();
+    one_block();
+}

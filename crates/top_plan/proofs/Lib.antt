@@ -1,0 +1,16 @@
+pub mod Passes
+pub mod Checking
+pub mod Printing
+pub mod Lines
+pub mod Kept
+pub mod TurnsKept
+pub mod TurnsOf
+pub mod Unread
+pub mod Fronts
+pub mod Telling
+pub mod Followed
+pub mod Interrupted
+pub mod Causes
+pub mod Steadied
+pub mod Reported
+pub mod Outcomes

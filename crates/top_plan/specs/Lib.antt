@@ -1,0 +1,9 @@
+pub mod World
+pub mod Texts
+pub mod Plan
+pub mod Parts
+pub mod Happened
+pub mod Expected
+pub mod Partial
+pub mod Steady
+pub mod Outcomes
