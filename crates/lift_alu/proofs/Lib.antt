@@ -16,3 +16,4 @@ pub mod Examples
 pub mod Outs
 pub mod Making
 pub mod Closed
+pub mod Words

@@ -1,5 +1,7 @@
 //! Lifting an instruction into a block.
-ghost use Rattle.std.specs.Prelude.{◌≡◌, ◌≤◌, [], length, IfOk, MatchResult};
+ghost use Rattle.std.specs.Prelude.{◌≡◌, ◌≤◌, ◌+◌, [], true, length, IfOk, IsTrue, MatchResult};
+ghost use Rattle.ia_inst.specs.Canonical.{valid_of};
+ghost use Rattle.ssa_form.specs.Checked.{checked};
 ghost use Rattle.lift_alu.specs.Steps.{Rowed, row_steps, unnamed};
 ghost use Rattle.lift_alu.specs.Lifted.{row_alu, row_of, leaving_of, exit_by, draft_of, lifted};
 ghost use Rattle.lift_alu.specs.Making.{rowed, HasRoom};
@@ -134,12 +136,12 @@ fn exit_of(row: &Row, inst: &Inst, next: u32) -> Exit
     }
 }
 
-/// Appends the lines of an instruction of `len` bytes at an address to a block that ends before it, of at
-/// most 2016 lines, and sets the outs and the exit: a transfer's own, or the next address behind any other
-/// instruction.
+/// Appends the lines of an instruction of `len` bytes at an address to a block that goes on there, of at
+/// most 2016 lines, and sets the outs and the exit: a transfer's own, or a jump to the next address behind
+/// any other instruction. A native instruction has no lines.
 ///
-/// A native instruction has no lines. An error comes where memory is short, and then the block stays as it
-/// is.
+/// The lines are those of the table, and a checked block stays checked. A valid instruction has at most 32
+/// lines. An error comes where memory is short, and then the block stays as it is.
 pub fn lift_inst(
     alloc: Global,
     block: &mut Block,
@@ -148,7 +150,9 @@ pub fn lift_inst(
     len: u8,
 ) -> Result<(), AllocError>
     requires few { length block.old.lines ≤ 2016 }
-    ensures { MatchResult result (λ done. block.new ≡ lifted inst.now at len block.old) (λ short. block.new ≡ block.old) }
+    ensures lines { MatchResult result (λ done. block.new ≡ lifted inst.now at len block.old) (λ short. block.new ≡ block.old) }
+    ensures few { IsTrue (valid_of inst.now) → length block.new.lines ≤ length block.old.lines + 32 }
+    ensures whole { checked block.old ≡ true → checked block.new ≡ true }
 {
     let mut row = open(alloc, block)?;
     let next = at.wrapping_add(len as u32);
