@@ -85,7 +85,7 @@ expr_words (Sel x y z) vals d w g =
     let p = expr_words x vals d w.0 g in
     let q = expr_words y vals (emit vals x d).to w.1 p.spelled in
     let r = expr_words z vals (emit vals y (emit vals x d).to).to w.2 q.spelled in
-    record { spelled = line_spelled _ vals _ r.spelled (p.val, (q.val, r.val)); val = tt }
+    record { spelled = line_spelled _ vals _ r.spelled (p.val, q.val, r.val); val = tt }
 
 step_spelled : (x : Step) (r : Rowed) → StepWords x → Spelled r.draft r.vals → Spelled (row_step x r).draft (row_step x r).vals
 unfolding row_step
@@ -210,13 +210,13 @@ flags_words : (w : Width) (rest : List Step) → StepsWords rest → StepsWords 
 flags_words w rest h = (tt, ((tt, omega arith), (top_words w r' tt, h)))
 
 sum_words : (w : Width) → StepsWords (result_flags w (sum_overflow w ∷ []))
-sum_words w = flags_words w _ (top_words w (Op And (Op Xor a' r') (Op Xor b' r')) ((tt, tt), (tt, tt)), tt)
+sum_words w = flags_words w (sum_overflow w ∷ []) (top_words w (Op And (Op Xor a' r') (Op Xor b' r')) ((tt, tt), (tt, tt)), tt)
 
 difference_words : (w : Width) → StepsWords (result_flags w (difference_overflow w ∷ []))
-difference_words w = flags_words w _ (top_words w (Op And (Op Xor a' b') (Op Xor a' r')) ((tt, tt), (tt, tt)), tt)
+difference_words w = flags_words w (difference_overflow w ∷ []) (top_words w (Op And (Op Xor a' b') (Op Xor a' r')) ((tt, tt), (tt, tt)), tt)
 
 logic_words : (w : Width) → StepsWords (result_flags w (Put InOf (Lit 0) ∷ []))
-logic_words w = flags_words w _ (omega arith, tt)
+logic_words w = flags_words w (Put InOf (Lit 0) ∷ []) (omega arith, tt)
 
 -- ---- rows
 alu_words : (op : ℕ) (w : Width) (dst : Rm) (x : Src) → op < 8 → rm_valid dst ≡ true → IsSource w x → StepsWords (row_alu op w dst x)
@@ -255,7 +255,7 @@ overflow_words shift.Shr w = top_words w a' tt
 overflow_words shift.Sar w = omega arith
 
 shift_words : (op : ShiftOp) (w : Width) (dst : Rm) (c : Count) (next : ℕ) → rm_valid dst ≡ true → StepsWords (row_of (Shift op w dst c) next)
-shift_words op w dst c next i = (place_words dst i, (read_words w 0 2 dst, (count_words c, ((tt, omega arith), (shifted_words op w, (shift_line_words op w, (write_words w 0 dst 4, (carry_words op w, ((tt, (tt, tt)), ((tt, (tt, tt)), ((tt, (tt, (tt, omega arith))), ((tt, (tt, top_words w r' tt)), ((tt, (tt, overflow_words op w)), tt)))))))))))))
+shift_words op w dst c next i = (place_words dst i, (read_words w 0 2 dst, (count_words c, ((tt, omega arith), (shifted_words op w, (shift_line_words op w, (write_words w 0 dst 4, (carry_words op w, ((tt, tt, tt), ((tt, tt, tt), ((tt, tt, (tt, omega arith)), ((tt, tt, top_words w r' tt), ((tt, tt, overflow_words op w), tt)))))))))))))
 
 extend_words : (sign : Bool) (from w : Width) (dst : ℕ) (x : Rm) (next : ℕ) → rm_valid x ≡ true → StepsWords (row_of (Extend sign from w dst x) next)
 extend_words true from w dst x next i = (place_words x i, (read_words from 1 3 x, (masked_words w (extended from b') (extended_words from b' tt), (write_reg_words w dst 4, tt))))
@@ -285,7 +285,7 @@ row_words Cwde next l h = (tt, tt)
 row_words Cdq next l h = ((tt, omega arith), tt)
 row_words (Extend sign from w dst x) next l h = extend_words sign from w dst x next (and_right (nat_lt dst 8) _ (and_right (widens from w) _ h))
 row_words (Setcc c dst) next l h = (condition_words c, (place_words dst (and_right (nat_lt c 16) _ h), (write_words B8 0 dst 3, tt)))
-row_words (Cmov c dst x) next l h = (place_words x (and_right (nat_lt dst 8) _ (and_right (nat_lt c 16) _ h)), (read_words B32 1 3 x, (condition_words c, ((tt, (tt, tt)), tt))))
+row_words (Cmov c dst x) next l h = (place_words x (and_right (nat_lt dst 8) _ (and_right (nat_lt c 16) _ h)), (read_words B32 1 3 x, (condition_words c, ((tt, tt, tt), tt))))
 row_words (Jcc c rel) next l h = (condition_words c, tt)
 row_words (Jmp rel) next l h = tt
 row_words (JmpRm x) next l h = (place_words x h, (read_words B32 0 9 x, tt))

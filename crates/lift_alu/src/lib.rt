@@ -19,6 +19,6 @@ mod tests;
 mod transfers;
 
 pub use ia_inst::Inst;
-pub use law::{lines_mean, lines_spell_words};
+pub use law::lines_mean;
 pub use lift::lift_inst;
 pub use ssa_form::Block;
