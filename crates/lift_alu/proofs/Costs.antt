@@ -55,7 +55,6 @@ emit_count (Fn o x) vals b = let p = emit_count x vals b in one_line _ _ ∙ ome
 emit_count (Sel x y z) vals b = let p = emit_count x vals b in let q = emit_count y vals (emit vals x b).to in let t = emit_count z vals (emit vals y (emit vals x b).to).to in one_line _ _ ∙ omega arith
 
 step_count : (x : Step) (r : Rowed) → length (row_step x r).draft.lines ≡ length r.draft.lines + step_cost x
-
 unfolding row_step
 step_count (Name k e) r = emit_count e r.vals r.draft
 step_count (Fetch k w e) r = let p = emit_count e r.vals r.draft in one_line _ _ ∙ omega arith

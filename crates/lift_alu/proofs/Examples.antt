@@ -430,3 +430,21 @@ jump_here = refl
 set_direction : (lifted Std 0x08048054 1 blank).outs ≡ Param 0 ∷ Param 1 ∷ Param 2 ∷ Param 3 ∷ Param 4 ∷ Param 5 ∷ Param 6 ∷ Param 7 ∷ Param 8 ∷ Param 9 ∷ Param 10 ∷ Param 11 ∷ Param 12 ∷ Num 1 ∷ []
 unfolding lifted row_step
 set_direction = refl
+
+-- dec ecx; jnz back to it
+counts_down : lifted (Jcc 5 0xFFFFFFFD) 0x08048055 2 (lifted (Dec B32 (Reg 1)) 0x08048054 1 blank) ≡ record blank {
+  lines =
+      Bin Sub (Param 1) (Num 1) ∷
+      One Parity (Of 0) ∷
+      Bin Eq (Of 0) (Num 0) ∷
+      Bin Shr (Of 0) (Num 31) ∷
+      Bin Xor (Param 1) (Num 1) ∷
+      Bin Xor (Param 1) (Of 0) ∷
+      Bin And (Of 4) (Of 5) ∷
+      Bin Shr (Of 6) (Num 31) ∷
+      Bin Xor (Of 2) (Num 1) ∷ [];
+  outs = Param 0 ∷ Of 0 ∷ Param 2 ∷ Param 3 ∷ Param 4 ∷ Param 5 ∷ Param 6 ∷ Param 7 ∷ Param 8 ∷ Of 1 ∷ Of 2 ∷ Of 3 ∷ Of 7 ∷ Param 13 ∷ [];
+  exit = Cond (Of 8) 0x08048054 0x08048057;
+}
+unfolding lifted row_step
+counts_down = refl

@@ -95,7 +95,6 @@ with_spot_count InOf v r = refl
 with_spot_count InDf v r = refl
 
 step_count : (x : Step) (r : Rowed) → length (row_step x r).draft.regs.gpr ≡ length r.draft.regs.gpr
-
 unfolding row_step
 step_count (Name k e) r = ap (λ (g : Regs Val). length g.gpr) (emit_regs e r.vals r.draft)
 step_count (Fetch k w e) r = ap (λ (g : Regs Val). length g.gpr) (emit_regs e r.vals r.draft)

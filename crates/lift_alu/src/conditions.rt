@@ -87,8 +87,5 @@ pub fn cmov(row: &mut Row, c: u8, dst: u8, src: &Rm)
     row.place(AT_SRC, src);
     row.read(B, Width::B32, AT_SRC, src);
     row.name_condition(R, c);
-    row.put(
-        Spot::Gpr(dst),
-        Sel(Got(R), Got(B), Cur(Spot::Gpr(dst))),
-    );
+    row.put(Spot::Gpr(dst), Sel(Got(R), Got(B), Cur(Spot::Gpr(dst))));
 }

@@ -81,10 +81,7 @@ pub fn cdq(row: &mut Row)
     requires { HasRoom row.old 32 }
     ensures made { rowed row.new ≡ row_steps row_cdq (rowed row.old) }
 {
-    row.put(
-        Spot::Gpr(2),
-        Op(BinOp::Sar, Cur(Spot::Gpr(0)), Lit(31)),
-    );
+    row.put(Spot::Gpr(2), Op(BinOp::Sar, Cur(Spot::Gpr(0)), Lit(31)));
 }
 
 /// The factor that is no operand in memory: the number, or the register dst.

@@ -48,11 +48,7 @@ impl Row {
         ensures made { record { row = rowed self.new; val = result } ≡ made_of (Op And (Op Shr (Cur (Gpr register)) (Lit 8)) (Lit 0xFF)) (rowed self.old) }
         ensures grown { Grew self.old self.new 2 }
     {
-        let high = self.value(Form::Op(
-            BinOp::Shr,
-            Atom::Cur(Spot::Gpr(register)),
-            Atom::Lit(8),
-        ));
+        let high = self.value(Form::Op(BinOp::Shr, Atom::Cur(Spot::Gpr(register)), Atom::Lit(8)));
         self.with(BinOp::And, high, Atom::Lit(0xFF))
     }
 

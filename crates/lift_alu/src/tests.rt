@@ -1,6 +1,6 @@
 //! The lines of some instructions at 08048054, worked out from the table by hand. A line is written as one
 //! letter, by its operator.
-ghost use Rattle.std.specs.Prelude.{◌≤◌, length};
+ghost use Rattle.std.specs.Prelude.{◌≡◌, length};
 
 use crate::{Inst, lift_inst};
 use br_word::ShiftOp;
@@ -12,7 +12,9 @@ use std::test::Fail;
 const START: u32 = 0x0804_8054;
 
 /// A block without lines, whose outs are its parameters.
-fn blank(alloc: Global) -> Block {
+fn blank(alloc: Global) -> Block
+    ensures { length result.lines ≡ 0 }
+{
     Block {
         start: START,
         lines: Lines::new(alloc),
@@ -85,6 +87,11 @@ fn lines(alloc: Global, inst: &Inst, len: u8) -> Result<Vec<u8>, AllocError> {
     Ok(letters)
 }
 
+/// Whether lines are written so.
+fn reads(letters: &Vec<u8>, wanted: &[u8]) -> bool {
+    letters.as_slice() == wanted
+}
+
 /// An operand [base + index * scale + disp].
 fn memory(base: u8, index: Option<(u8, u8)>, disp: u32) -> Rm {
     Rm::Mem(Addr {
@@ -101,7 +108,7 @@ fn inc_keeps_the_carry(rt: HostRuntime) -> Result<(), Fail> {
         dst: Rm::Reg(0),
     };
     let (letters, block) = lifted(rt.alloc(), &inc, 1)?;
-    assert_eq!(rt; letters.as_slice(), b"+p=r^^&r");
+    assert!(rt; reads(&letters, b"+p=r^^&r"));
     assert!(rt; check_block(&block));
     assert!(rt; matches!(block.outs[0], Val::Line(0)));
     assert!(rt; matches!(block.outs[8], Val::Param(8)));
@@ -120,7 +127,7 @@ fn sums_and_shifts(rt: HostRuntime) -> Result<(), Fail> {
         dst: Rm::Reg(4),
         src: Src::Rm(Rm::Reg(7)),
     };
-    assert_eq!(rt; lines(alloc, &adc, 2)?.as_slice(), b"r&r&+&+&&l|<<|p=r^^&r");
+    assert!(rt; reads(&lines(alloc, &adc, 2)?, b"r&r&+&+&&l|<<|p=r^^&r"));
     // shl byte [ebx+ecx*4+8], cl
     let shl = Inst::Shift {
         op: ShiftOp::Shl,
@@ -128,7 +135,7 @@ fn sums_and_shifts(rt: HostRuntime) -> Result<(), Fail> {
         dst: memory(3, Some((1, 4)), 8),
         count: Count::Cl,
     };
-    assert_eq!(rt; lines(alloc, &shl, 4)?.as_slice(), b"l++L&=l&S-r&?p?=?r?r^?");
+    assert!(rt; reads(&lines(alloc, &shl, 4)?, b"l++L&=l&S-r&?p?=?r?r^?"));
     // sar cx, 3
     let sar = Inst::Shift {
         op: ShiftOp::Sar,
@@ -136,7 +143,7 @@ fn sums_and_shifts(rt: HostRuntime) -> Result<(), Fail> {
         dst: Rm::Reg(1),
         count: Count::Imm(3),
     };
-    assert_eq!(rt; lines(alloc, &sar, 4)?.as_slice(), b"&=ws&&|-s&?p?=?r??");
+    assert!(rt; reads(&lines(alloc, &sar, 4)?, b"&=ws&&|-s&?p?=?r??"));
     Ok(())
 }
 
@@ -147,20 +154,37 @@ fn stack_and_transfers(rt: HostRuntime) -> Result<(), Fail> {
     let pop = Inst::Pop {
         dst: memory(4, None, 4),
     };
-    assert_eq!(rt; lines(alloc, &pop, 4)?.as_slice(), b"L++S");
+    assert!(rt; reads(&lines(alloc, &pop, 4)?, b"L++S"));
     // call, backwards by 10
     let (letters, block) = lifted(alloc, &Inst::Call { rel: 0xFFFF_FFF6 }, 5)?;
-    assert_eq!(rt; letters.as_slice(), b"-S");
+    assert!(rt; reads(&letters, b"-S"));
     assert!(rt; matches!(block.exit, Exit::Jump(0x0804_804F)));
-    assert!(rt; matches!(block.lines.line(1), Line::Store { a: Val::Num(0x0804_8059), .. }));
+    assert!(rt;
+        matches!(
+            block.lines.line(1),
+            Line::Store {
+                a: Val::Num(0x0804_8059),
+                ..
+            }
+        )
+    );
     // ret 4
     let (letters, block) = lifted(alloc, &Inst::Ret { pop: 4 }, 3)?;
-    assert_eq!(rt; letters.as_slice(), b"L+");
+    assert!(rt; reads(&letters, b"L+"));
     assert!(rt; matches!(block.lines.line(1), Line::Bin { b: Val::Num(8), .. }));
     assert!(rt; matches!(block.exit, Exit::Way(Val::Line(0))));
     // jg
     let (letters, block) = lifted(alloc, &Inst::Jcc { cond: 15, rel: 16 }, 2)?;
-    assert_eq!(rt; letters.as_slice(), b"^|^");
-    assert!(rt; matches!(block.exit, Exit::Cond { test: Val::Line(2), taken: 0x0804_8066, next: 0x0804_8056 }));
+    assert!(rt; reads(&letters, b"^|^"));
+    assert!(rt;
+        matches!(
+            block.exit,
+            Exit::Cond {
+                test: Val::Line(2),
+                taken: 0x0804_8066,
+                next: 0x0804_8056
+            }
+        )
+    );
     Ok(())
 }

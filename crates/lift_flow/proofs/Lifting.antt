@@ -23,32 +23,37 @@ pub record Left (exe : Exe) (at : ℕ) (is : List Placed) (b whole : Block) : Ty
   pub rest : lifted_all is b ≡ whole
   pub stand : StandFrom exe at is
 
-first_of : (i j : Inst) (n m : ℕ) → Some (i, n) ≡ Some (j, m) → (i ≡ j) × (n ≡ m)
-first_of i j n m q = (cc, cc)
+pub same_inst : (i j : Inst) (n m : ℕ) → ◌≡◌ {A = Option (Inst × ℕ)} (Some (i, n)) (Some (j, m)) → i ≡ j
+same_inst i j n m q = let e : ◌≡◌ {A = Inst × ℕ} (i, n) (j, m) = cc in ap (λ (x : Inst × ℕ). x.0) e
 
-next_left : (exe : Exe) (at : ℕ) (p : Placed) (is : List Placed) (b c whole : Block) (i : Inst) (n : ℕ) → Some (i, n) ≡ inst_found (found_at exe at) → c ≡ lifted i at n b → lifted_all (p ∷ is) b ≡ whole → StandFrom exe at (p ∷ is) → Left exe (at + n) is c whole
+pub same_size : (i j : Inst) (n m : ℕ) → ◌≡◌ {A = Option (Inst × ℕ)} (Some (i, n)) (Some (j, m)) → n ≡ m
+same_size i j n m q = let e : ◌≡◌ {A = Inst × ℕ} (i, n) (j, m) = cc in ap (λ (x : Inst × ℕ). x.1) e
+
+next_left : (exe : Exe) (at : ℕ) (p : Placed) (is : List Placed) (b c whole : Block) (i : Inst) (n : ℕ) → ◌≡◌ {A = Option (Inst × ℕ)} (Some (i, n)) (inst_found (found_at exe at)) → c ≡ lifted i at n b → lifted_all (p ∷ is) b ≡ whole → StandFrom exe at (p ∷ is) → Left exe (at + n) is c whole
 next_left exe at p is b c whole i n q l h s =
-    let e = first_of i p.inst n p.size (q ∙ ap inst_found s.1) in
+    let f : ◌≡◌ {A = Option (Inst × ℕ)} (Some (i, n)) (Some (p.inst, p.size)) = q ∙ ap inst_found s.1 in
+    let j = same_inst i p.inst n p.size f in
+    let m = same_size i p.inst n p.size f in
     let same : c ≡ lifted p.inst p.at p.size b =
-    l ∙ ap (λ (j : Inst). lifted j at n b) e.0 ∙ ap (λ (m : ℕ). lifted p.inst at m b) e.1 ∙ ap (λ (a : ℕ). lifted p.inst a p.size b) (sym s.0) in
+    l ∙ ap (λ (x : Inst). lifted x at n b) j ∙ ap (λ (x : ℕ). lifted p.inst at x b) m ∙ ap (λ (a : ℕ). lifted p.inst a p.size b) (sym s.0) in
     record {
       rest = ap (λ (d : Block). lifted_all is d) same ∙ h;
-      stand = subst (λ m. StandFrom exe (at + m) is) (sym e.1) s.2;
+      stand = subst (λ (x : ℕ). StandFrom exe (at + x) is) (sym m) s.2;
     }
 
 split : (k : ℕ) (is : List Placed) → k < length is → drop k is ≡ get_or is k nothing ∷ drop (k + 1) is
 split k is l = drop-cons is k nothing l ∙ ap (λ j. get_or is k nothing ∷ drop j is) (sym (add-one k))
 
-pub goes_on : (exe : Exe) (at k : ℕ) (is : List Placed) (b c whole : Block) (i : Inst) (n : ℕ) → k < length is → Some (i, n) ≡ inst_found (found_at exe at) → c ≡ lifted i at n b → lifted_all (drop k is) b ≡ whole → StandFrom exe at (drop k is) → Left exe (at + n) (drop (k + 1) is) c whole
+pub goes_on : (exe : Exe) (at k : ℕ) (is : List Placed) (b c whole : Block) (i : Inst) (n : ℕ) → k < length is → ◌≡◌ {A = Option (Inst × ℕ)} (Some (i, n)) (inst_found (found_at exe at)) → c ≡ lifted i at n b → lifted_all (drop k is) b ≡ whole → StandFrom exe at (drop k is) → Left exe (at + n) (drop (k + 1) is) c whole
 goes_on exe at k is b c whole i n l q m h s =
     let e = split k is l in
     next_left exe at (get_or is k nothing) (drop (k + 1) is) b c whole i n q m (subst (λ xs. lifted_all xs b ≡ whole) e h) (subst (λ xs. StandFrom exe at xs) e s)
 
 -- before the end of the block an instruction stands there
-there : (exe : Exe) (at : ℕ) (p : Placed) (is : List Placed) → None ≡ inst_found (found_at exe at) → StandFrom exe at (p ∷ is) → ⊥
-there exe at p is q s = let e : None ≡ Some (p.inst, p.size) = q ∙ ap inst_found s.1 in cc
+there : (exe : Exe) (at : ℕ) (p : Placed) (is : List Placed) → ◌≡◌ {A = Option (Inst × ℕ)} None (inst_found (found_at exe at)) → StandFrom exe at (p ∷ is) → ⊥
+there exe at p is q s = let e : ◌≡◌ {A = Option (Inst × ℕ)} None (Some (p.inst, p.size)) = q ∙ ap inst_found s.1 in cc
 
-pub stands_there : (exe : Exe) (at k : ℕ) (is : List Placed) → k < length is → None ≡ inst_found (found_at exe at) → StandFrom exe at (drop k is) → ⊥
+pub stands_there : (exe : Exe) (at k : ℕ) (is : List Placed) → k < length is → ◌≡◌ {A = Option (Inst × ℕ)} None (inst_found (found_at exe at)) → StandFrom exe at (drop k is) → ⊥
 stands_there exe at k is l q s = there exe at (get_or is k nothing) (drop (k + 1) is) q (subst (λ xs. StandFrom exe at xs) (split k is l) s)
 
 -- ---- the block of a start
@@ -58,7 +63,7 @@ block_is one exe start = (one exe start (block_of exe start)).1 refl
 ends_count : (exe : Exe) (next : ℕ) (is : List Placed) (e : End) → EndsSo exe next is e → length is ≤ 64
 ends_count exe next is Transfer h = h.1
 ends_count exe next is Island h = let c = h.1 in omega arith
-ends_count exe next is BeforeIsland h = let c = h.2.0 in omega arith
+ends_count exe next is BeforeIsland h = let c = h.2 in omega arith
 ends_count exe next is Unreadable h = let c = h.1 in omega arith
 ends_count exe next is Full h = let c = h.1 in omega arith
 
@@ -79,7 +84,7 @@ plain_is exe start b n q = q ∙ sym (lifted_plain (block_of exe start).end (blo
 -- ---- a native instruction
 one_placed : (exe : Exe) (start : ℕ) (is : List Placed) → length is ≡ 1 → StandFrom exe start is → (p : Placed) × (is ≡ p ∷ []) × (found_at exe start ≡ There p.inst p.size)
 one_placed exe start [] c s = absurd (omega arith)
-one_placed exe start (p ∷ []) c s = (p, (refl, s.1))
+one_placed exe start (p ∷ []) c s = (p, refl, s.1)
 one_placed exe start (p ∷ q ∷ is) c s = absurd (omega arith)
 
 pub record IsNative (exe : Exe) (start : ℕ) (n : ℕ) : Type 0 where

@@ -1,9 +1,12 @@
 -- The lines of a block do what its steps do, one instruction after another.
-use Rattle.std.proofs.Common.{◌≡◌, ◌≢◌, ℕ, zero, suc, ◌+◌, ◌^◌, ◌<◌, ◌≤◌, true, List, [], ◌∷◌, ◌++◌, length, All, Option, Some, None, refl, sym, ap, ◌∙◌, subst, append_assoc, length-append, arith}
-use Rattle.std.specs.Prelude.{IsTrue}
+use Rattle.std.proofs.Common.{◌≡◌, ◌≢◌, ℕ, zero, suc, ◌+◌, ◌-◌, ◌<◌, Bool, true, false, ◌&&◌, List, [], ◌∷◌, ◌++◌, length, drop, get_or, All, Option, Some, None, refl, sym, ap, ◌∙◌, subst, append_assoc, length-append, arith}
+use Rattle.std.specs.Prelude.{IsTrue, if◌then◌else◌}
+use Rattle.std.proofs.lemmas.List.Sums.{sum_by-cons}
+use Rattle.std.proofs.lemmas.List.{append-nil}
 use Rattle.std.proofs.lemmas.List.Elements.{All-head, All-tail, All-drop}
-use Rattle.br_word.specs.Memory.{Region, Runs, bytes_at}
-use Rattle.br_word.specs.State.{Processor, State, Running}
+use Rattle.br_word.specs.Memory.{Region, Runs, bytes_at, covers, allows}
+use Rattle.br_word.specs.Words.{bit}
+use Rattle.br_word.specs.State.{Processor, State, Running, Flag, CF, PF, ZF, SF, OF, flag_of}
 use Rattle.elf_read.specs.declared.exe.Exe.{Exe}
 use Rattle.elf_read.specs.Elf.{IsGuest}
 use Rattle.ia_inst.specs.declared.inst.Inst.{Inst}
@@ -28,12 +31,12 @@ use Rattle.sim_laws.specs.Through.{Comes, RunsThrough}
 use Rattle.ssa_form.specs.declared.form.Line.{Line}
 use Rattle.ssa_form.specs.declared.form.Block.{Block}
 use Rattle.ssa_form.specs.Value.{Env, fold, AllAllowed, numbered, outs_of, exit_of}
-use Rattle.ssa_form.specs.Agree.{AgreesOn, AreBits, every}
+use Rattle.ssa_form.specs.Agree.{AgreesOn, AreBits, every, number}
 use Rattle.ssa_form.specs.Checked.{checked}
 use Rattle.ssa_form.specs.Same.{AllSmall, HoldsBytes, start_env, end_env, rows}
 use Rattle.lift_alu.specs.Lifted.{lifted}
 use Rattle.lift_alu.specs.Means.{IsLifted, Reaches, LinesMean, EachMeans, EachStaysChecked}
-use Rattle.lift_flow.specs.LiftedBlock.{blank, lifted_all, lifted_to, lift_of}
+use Rattle.lift_flow.specs.LiftedBlock.{params, blank, lifted_all, lifted_to, lift_of}
 use Rattle.lift_laws.specs.BlockMeans.{Gives, BlockMeans}
 use Rattle.lift_laws.proofs.NeverCalls.{no_call}
 use Rattle.lift_laws.proofs.Appended.{fold_behind, allowed_behind}
@@ -52,6 +55,48 @@ small_bytes (b ∷ bs) h = (All-head IsByte b bs h, small_bytes bs (All-tail IsB
 small_memory : (rs : List Region) → HoldBytes rs → HoldsBytes rs
 small_memory [] h = tt
 small_memory (r ∷ rs) h = (small_bytes r.bytes (All-head OfBytes r rs h), small_memory rs (All-tail OfBytes r rs h))
+
+-- what is found in memory of bytes are bytes
+bytes_there : (at n : ℕ) (rs : List Region) (bs : List ℕ) → HoldBytes rs → bytes_at Runs at n rs ≡ Some bs → AreBytes bs
+unfolding bytes_at
+bytes_there at n [] bs h q = cc
+bytes_there at n (r ∷ rs) bs h q = by_test (covers r at n && allows Runs r.perms) q
+  where
+    by_test : (b : Bool) → (if b then Some (drop (at - r.start) r.bytes) else bytes_at Runs at n rs) ≡ Some bs → AreBytes bs
+    by_test true e = let same : drop (at - r.start) r.bytes ≡ bs = cc in subst AreBytes same (All-drop IsByte (at - r.start) r.bytes (All-head OfBytes r rs h))
+    by_test false e = bytes_there at n rs bs (All-tail OfBytes r rs h) e
+
+-- ---- the parameters are the outs of a block without lines
+params_agree : (u : Processor) (p : ℕ → ℕ) (m : List Region) → AgreesOn every u p → AgreesOn every u (outs_of params (start_env p m))
+params_agree u p m a = record { regs = regs; flags = flags; df = a.df }
+  where
+    regs : (r : ℕ) → r < 8 → every r ≡ true → outs_of params (start_env p m) r ≡ get_or u.regs r 0
+    regs zero l o = a.regs 0 l o
+    regs (suc zero) l o = a.regs 1 l o
+    regs (suc (suc zero)) l o = a.regs 2 l o
+    regs (suc (suc (suc zero))) l o = a.regs 3 l o
+    regs (suc (suc (suc (suc zero)))) l o = a.regs 4 l o
+    regs (suc (suc (suc (suc (suc zero))))) l o = a.regs 5 l o
+    regs (suc (suc (suc (suc (suc (suc zero)))))) l o = a.regs 6 l o
+    regs (suc (suc (suc (suc (suc (suc (suc zero))))))) l o = a.regs 7 l o
+    regs (suc (suc (suc (suc (suc (suc (suc (suc r)))))))) l o = absurd (omega arith)
+
+    flags : (f : Flag) → every (number f) ≡ true → flag_of f u.marks ≡ true → outs_of params (start_env p m) (number f) ≡ bit (flag_of f u.flags)
+    flags CF o k = a.flags CF o k
+    flags PF o k = a.flags PF o k
+    flags ZF o k = a.flags ZF o k
+    flags SF o k = a.flags SF o k
+    flags OF o k = a.flags OF o k
+
+params_bits : (p : ℕ → ℕ) (m : List Region) → AreBits p → AreBits (outs_of params (start_env p m))
+params_bits p m z = record { flags = flags; df = z.df }
+  where
+    flags : (f : Flag) → outs_of params (start_env p m) (number f) < 2
+    flags CF = z.flags CF
+    flags PF = z.flags PF
+    flags ZF = z.flags ZF
+    flags SF = z.flags SF
+    flags OF = z.flags OF
 
 -- ---- kinds
 lifted_kind : (k : Kind) → k ≢ kinds.Island → IsLifted k
@@ -175,3 +220,54 @@ module _ (asks : AsksExactly) (read : ReadIsValid) (mean : EachMeans) (stays : E
         allowed = allowed_behind x g.new (length b.lines) (length c.lines) e n h g.allowed;
         stands = subst (λ (f : Env). Stands d f t) (sym (fold_behind x g.new (length b.lines) (length c.lines) e n)) g.stands;
       }
+
+  valid_here : (s : State) (i : Inst) (n : ℕ) → IsStateOf exe s → found_at exe s.eip ≡ There i n → IsTrue (valid_of i)
+  valid_here s i n h f = by_bytes (bytes_at Runs s.eip 1 s.regions) refl (found_here s i n h f)
+    where
+      by_bytes : (o : Option (List ℕ)) → bytes_at Runs s.eip 1 s.regions ≡ o → found_in o ≡ There i n → IsTrue (valid_of i)
+      by_bytes None q e = cc
+      by_bytes (Some bs) q e = valid_in bs i n (decode_of bs) (bytes_there s.eip 1 s.regions bs h.sound.bytes q) refl e
+
+  -- the next of some plain instructions
+  plain_on : (p : Placed) (s : State) → IsStateOf exe s → s.stop ≡ Running → p.at ≡ s.eip → found_at exe s.eip ≡ There p.inst p.size → kind_of p.inst ≡ kinds.Plain → IsWellDefined s → Comes exe s (step s 0) × ((step s 0).eip ≡ s.eip + p.size)
+  plain_on p s h r a f k w =
+      let went = through exe (p ∷ []) s guest h r (a, f, tt) (k, tt) (w, tt) in
+      (went.0, went.1 ∙ ap (λ (n : ℕ). s.eip + n) (sum_by-cons (λ (q : Placed). q.size) p [] ∙ omega arith))
+
+  all_lead : (is : List Placed) (b : Block) (e : Env) (s : State) → Stands b e s → IsStateOf exe s → s.stop ≡ Running → StandFrom exe s.eip is → AreAlmostPlain is → WellDefined (length is) s → Leads b (lifted_all is b) e (run (length is) s [])
+  all_lead [] b e s g h r st k w = record { new = []; lines = sym (append-nil b.lines); allowed = tt; stands = g }
+  all_lead (p ∷ []) b e s g h r st k w =
+      one_leads p b e s g h r st.0 st.1 (valid_here s p.inst p.size h st.1) (lifted_kind (kind_of p.inst) k) w.0
+  all_lead (p ∷ q ∷ qs) b e s g h r st k w =
+      let first = one_leads p b e s g h r st.0 st.1 (valid_here s p.inst p.size h st.1) (lifted_kind (kind_of p.inst) (other_kind (kind_of p.inst) kinds.Plain k.0 (λ x. cc))) w.0 in
+      let on = plain_on p s h r st.0 st.1 k.0 w.0 in
+      let c = lifted p.inst p.at p.size b in
+      let rest = all_lead (q ∷ qs) c (fold (numbered (length b.lines) first.new) e) (step s 0) first.stands on.0.of on.0.running (subst (λ (at : ℕ). StandFrom exe at (q ∷ qs)) (sym on.1) st.2) k.1 w.1 in
+      joined b c (lifted_all (q ∷ qs) c) e (run (length (q ∷ qs)) (step s 0) []) first.new first.lines first.allowed rest
+
+  -- from the parameters to the end of the block
+  given : (b : Block) (start : ℕ) (p : ℕ → ℕ) (m : List Region) (t : State) → Leads (blank start) b (start_env p m) t → Gives b p m t
+  given b start p m t g =
+      let q : b.lines ≡ g.new = g.lines in
+      let whole : end_env b p m ≡ fold (numbered 0 g.new) (start_env p m) = ap (λ (ls : List Line). fold (numbered 0 ls) (start_env p m)) q in
+      record {
+        allowed = subst (λ (ls : List Line). AllAllowed (numbered 0 ls) (start_env p m)) (sym q) g.allowed;
+        agrees = subst (λ (f : Env). AgreesOn every t.cpu (outs_of b.outs f)) (sym whole) g.stands.agrees;
+        bits = subst (λ (f : Env). AreBits (outs_of b.outs f)) (sym whole) g.stands.bits;
+        memory = ap (λ (f : Env). f.mem) whole ∙ g.stands.memory;
+        exit = ap (λ (f : Env). exit_of b.exit f) whole ∙ g.stands.exit;
+      }
+
+  lifted_gives : (b : Block) (p : ℕ → ℕ) (m : List Region) (t : State) (c : Block) → c ≡ b → Gives c p m t → Gives b p m t
+  lifted_gives b p m t c q g = subst (λ (x : Block). Gives x p m t) q g
+
+  pub block_gives : EachHasOneBlock → (s : State) (p : ℕ → ℕ) → IsStateOf exe s → s.stop ≡ Running → (block_of exe s.eip).end ≢ Island → AgreesOn every s.cpu p → AreBits p → WellDefined (length (block_of exe s.eip).insts) s → Gives (lift_of exe s.eip) p s.regions (run (length (block_of exe s.eip).insts) s [])
+  unfolding lift_of
+  block_gives one s p h r n a z w =
+      let b = block_of exe s.eip in
+      let is = b.insts in
+      let here : IsBlock exe s.eip b = (one exe s.eip b).1 refl in
+      let begins : Stands (blank s.eip) (start_env p s.regions) s = record { whole = refl; agrees = params_agree s.cpu p s.regions a; bits = params_bits p s.regions z; memory = refl; exit = refl } in
+      let led = all_lead is (blank s.eip) (start_env p s.regions) s begins h r here.stand (almost_plain exe (s.eip + size_of is) is b.end n here.ends) w in
+      lifted_gives (lifted_to b.end is s.eip) p s.regions (run (length is) s []) (lifted_all is (blank s.eip)) (lifted_plain b.end is s.eip n)
+      (given (lifted_all is (blank s.eip)) s.eip p s.regions (run (length is) s []) led)
