@@ -1,6 +1,6 @@
 -- An instruction that is not native makes no system call.
 use Rattle.std.proofs.Common.{◌≡◌, ℕ, ◌+◌, Bool, true, false, List, Option, Some, None, subst}
-use Rattle.std.specs.Prelude.{set, if◌then◌else◌}
+use Rattle.std.specs.Prelude.{set, ◌==◌, if◌then◌else◌}
 use Rattle.br_word.specs.declared.types.Width.{Width}
 use Rattle.br_word.specs.declared.types.Width.TheVariants.{B8, B32}
 use Rattle.br_word.specs.Memory.{Region, load, store}
@@ -14,7 +14,7 @@ use Rattle.ia_inst.specs.declared.inst.Inst.{Inst}
 use Rattle.ia_inst.specs.declared.inst.Inst.TheVariants.{Alu, Test, Mov, Lea, Xchg, Inc, Dec, Not, Neg, Push, Pop, MulDiv, Imul, Shift, Rotate, Cwde, Cdq, Extend, Setcc, Cmov, Jcc, Jmp, JmpRm, Call, CallRm, Ret, Leave, Movs, Stos, Cld, Std, Sahf, Int80, Nop}
 use Rattle.ia_inst.specs.Kinds.{kind_of}
 use Rattle.ia_inst.specs.Act.{Past, To, Act, Load, Store, Ask, Divides, Calls, Ends, Completion, Next, Denied, Divided, Called, or_denied, perform}
-use Rattle.ia_inst.specs.Meaning.{wrap, of_rm, of_src, to_rm, with_carry, condition, pushed, no_changes, meaning}
+use Rattle.ia_inst.specs.Meaning.{wrap, of_rm, of_src, to_rm, with_carry, condition, pushed, no_changes, alu, meaning}
 use Rattle.ia_inst.proofs.ConditionCases.{either, carry_all, condition_all}
 use Rattle.lift_alu.specs.Means.{IsLifted}
 
@@ -65,7 +65,7 @@ condition_none c go h = condition_all NoCall (λ f k h. h) c go h
 
 calls_none : (i : Inst) (n : ℕ) (regs : List ℕ) (eip : ℕ) (df : Bool) → IsLifted (kind_of i) → NoCall (meaning i n regs eip df)
 unfolding meaning
-calls_none (Alu op w a s) n regs eip df k = carry_none op _ (λ c. rm_none w a regs _ (λ x. src_none w s regs _ (λ y. either NoCall _ _ _ tt (to_none w a _ regs _ (λ regs. tt)))))
+calls_none (Alu op w a s) n regs eip df k = carry_none op _ (λ c. rm_none w a regs _ (λ x. src_none w s regs _ (λ y. let r = alu op w x y c in either NoCall (op == 7) (Ends regs df r.changes (Past n)) (to_rm w a r.value regs (λ regs. Ends regs df r.changes (Past n))) tt (to_none w a r.value regs (λ regs. Ends regs df r.changes (Past n)) (λ regs. tt)))))
 calls_none (Test w a s) n regs eip df k = rm_none w a regs _ (λ x. src_none w s regs _ (λ y. tt))
 calls_none (Mov w a s) n regs eip df k = src_none w s regs _ (λ y. to_none w a _ regs _ (λ regs. tt))
 calls_none (Lea w g a) n regs eip df k = tt

@@ -60,11 +60,11 @@ small_memory (r ∷ rs) h = (small_bytes r.bytes (All-head OfBytes r rs h), smal
 bytes_there : (at n : ℕ) (rs : List Region) (bs : List ℕ) → HoldBytes rs → bytes_at Runs at n rs ≡ Some bs → AreBytes bs
 unfolding bytes_at
 bytes_there at n [] bs h q = cc
-bytes_there at n (r ∷ rs) bs h q = by_test (covers r at n && allows Runs r.perms) q
+bytes_there at n (r ∷ rs) bs h q = by_test (covers r at n && allows Runs r.perms) (λ e. bytes_there at n rs bs (All-tail OfBytes r rs h) e) q
   where
-    by_test : (b : Bool) → (if b then Some (drop (at - r.start) r.bytes) else bytes_at Runs at n rs) ≡ Some bs → AreBytes bs
-    by_test true e = let same : drop (at - r.start) r.bytes ≡ bs = cc in subst AreBytes same (All-drop IsByte (at - r.start) r.bytes (All-head OfBytes r rs h))
-    by_test false e = bytes_there at n rs bs (All-tail OfBytes r rs h) e
+    by_test : (b : Bool) → (bytes_at Runs at n rs ≡ Some bs → AreBytes bs) → (if b then Some (drop (at - r.start) r.bytes) else bytes_at Runs at n rs) ≡ Some bs → AreBytes bs
+    by_test true k e = let same : drop (at - r.start) r.bytes ≡ bs = cc in subst AreBytes same (All-drop IsByte (at - r.start) r.bytes (All-head OfBytes r rs h))
+    by_test false k e = k e
 
 -- ---- the parameters are the outs of a block without lines
 params_agree : (u : Processor) (p : ℕ → ℕ) (m : List Region) → AgreesOn every u p → AgreesOn every u (outs_of params (start_env p m))
