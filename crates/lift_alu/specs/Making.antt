@@ -16,7 +16,8 @@ use Rattle.lift_alu.specs.declared.row.Atom.{Atom}
 use Rattle.lift_alu.specs.declared.row.Atom.TheVariants as atom
 use Rattle.lift_alu.specs.declared.row.Form.{Form}
 use Rattle.lift_alu.specs.declared.row.Form.TheVariants as form
-use Rattle.lift_alu.specs.Steps.{Spot, Gpr, InCf, InPf, InZf, InSf, InOf, InDf, spot, with_spot, Expr, Cur, Got, Lit, Op, Fn, Sel, Step, Name, Put, put, Draft, append, emit, Rowed}
+use Rattle.lift_alu.specs.Steps.{Spot, Gpr, InCf, InPf, InZf, InSf, InOf, InDf, spot, with_spot, Expr, Cur, Got, Lit, Op, Fn, Sel, Step}
+use Rattle.lift_alu.specs.Steps.{Name, Put, put, Draft, append, emit, Rowed}
 use Rattle.lift_alu.specs.Lifted.{regs_of}
 use Rattle.lift_alu.specs.Table.{top, r', n', set_a, unless_none, count_expr, shifted_operand, shift_line}
 
@@ -44,9 +45,11 @@ index_of InSf = 11
 index_of InOf = 12
 index_of InDf = 13
 
+-- what each name stands for
 unfoldable pub vals_of : List Val → ℕ → Val
 vals_of names k = get_or names k (Num 0)
 
+-- the row that the code holds
 unfoldable pub rowed : Row → Rowed
 rowed s = record { draft = record { lines = s.lines.items; regs = regs_of s.outs }; vals = vals_of s.names }
 
@@ -89,6 +92,7 @@ line_made l r = record { row = with_line l r; val = Of (length r.draft.lines) }
 unfoldable pub made_of : Expr → Rowed → Made
 made_of e r = let p = emit r.vals e r.draft in record { row = record r { draft = p.to }; val = p.val }
 
+-- what an atom stands for
 unfoldable pub atom_of : Atom → Rowed → Val
 atom_of (atom.Cur p) r = spot p r.draft.regs (Num 0)
 atom_of (atom.Got k) r = r.vals k
@@ -112,6 +116,7 @@ shared_sign w x y = Put InOf (top w (Op And (form_expr x) (form_expr y)))
 abbrev pub shift_flags : Width → List Step
 shift_flags w = unless_none InPf (Fn Parity r') ∷ unless_none InZf (Op Eq r' (Lit 0)) ∷ unless_none InSf (top w r') ∷ []
 
+-- up to the result
 abbrev pub shift_operands : ShiftOp → Width → Rm → Count → List Step
 shift_operands op w dst count =
     set_a w dst (

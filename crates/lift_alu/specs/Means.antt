@@ -53,9 +53,11 @@ EachMeans = (i : Inst) (at n : ℕ) (b : Block)
 
 -- ---- what else is known of lifted blocks
 
+-- a checked block stays checked
 abbrev pub EachStaysChecked : Type 0
 EachStaysChecked = (i : Inst) (at n : ℕ) (b : Block) → checked b ≡ true → checked (lifted i at n b) ≡ true
 
+-- a valid instruction has at most 32 lines
 abbrev pub EachHasFew : Type 0
 EachHasFew = (i : Inst) (at n : ℕ) (b : Block)
     → IsTrue (valid_of i) → length (lifted i at n b).lines ≤ length b.lines + 32

@@ -13,7 +13,7 @@ pub use Rattle.lift_alu.specs.declared.row.Spot.{Spot}
 pub use Rattle.lift_alu.specs.declared.row.Spot.TheVariants.{Gpr, InCf, InPf, InZf, InSf, InOf, InDf}
 use Rattle.ssa_form.specs.Value.{bin_value, one_value, select_value}
 
--- what each of them holds
+-- what each virtual register holds
 pub record Regs (V : Type 0) : Type 0 where
   pub gpr : List V
   pub cf : V
@@ -23,6 +23,7 @@ pub record Regs (V : Type 0) : Type 0 where
   pub of : V
   pub df : V
 
+-- what one of them holds; another value for a general register that is none
 abbrev pub spot : {V : Type 0} → Spot → Regs V → V → V
 spot (Gpr r) s d = get_or s.gpr r d
 spot InCf s d = s.cf
@@ -32,6 +33,7 @@ spot InSf s d = s.sf
 spot InOf s d = s.of
 spot InDf s d = s.df
 
+-- one of them gets a value
 abbrev pub with_spot : {V : Type 0} → Spot → V → Regs V → Regs V
 with_spot (Gpr r) x s = record s { gpr = set s.gpr r x }
 with_spot InCf x s = record s { cf = x }
@@ -57,6 +59,7 @@ pub data Step : Type 0 where
   Put : Spot → Expr → Step
   Write : Width → Expr → Expr → Step
 
+-- name k stands for a value
 abbrev pub put : {V : Type 0} → ℕ → V → (ℕ → V) → ℕ → V
 put k x f j = if nat_eq j k then x else f j
 
@@ -66,15 +69,19 @@ pub record Run : Type 0 where
   pub names : ℕ → ℕ
   pub mem : List Region
 
+-- a virtual register gets a number
 abbrev pub with_reg : Spot → ℕ → Run → Run
 with_reg p x s = record s { regs = with_spot p x s.regs }
 
+-- name k stands for a number
 abbrev pub named : ℕ → ℕ → Run → Run
 named k x s = record s { names = put k x s.names }
 
+-- after a store
 abbrev pub with_mem : List Region → Run → Run
 with_mem m s = record s { mem = m }
 
+-- the number that an expression gives
 abbrev pub worth : Expr → Run → ℕ
 worth (Cur p) s = spot p s.regs 0
 worth (Got k) s = s.names k
@@ -90,6 +97,7 @@ AfterStep (Fetch k w at) s P = (x : ℕ) × (load (worth at s) (size_of w) s.mem
 AfterStep (Put p e) s P = P (with_reg p (worth e s) s)
 AfterStep (Write w at e) s P = (m : List Region) × (store (worth at s) (size_of w) (worth e s) s.mem ≡ Some m) × P (with_mem m s)
 
+-- steps are allowed one after another, and P holds after them
 abbrev pub After : List Step → Run → (Run → Type 0) → Type 0
 After [] s P = P s
 After (x ∷ xs) s P = AfterStep x s (λ t. After xs t P)
@@ -99,16 +107,20 @@ pub record Draft : Type 0 where
   pub lines : List Line
   pub regs : Regs Val
 
+-- the lines of an expression behind others, and the name of its number
 pub record Emitted : Type 0 where
   pub to : Draft
   pub val : Val
 
+-- a line behind the others
 abbrev pub append : Line → Draft → Draft
 append l b = record b { lines = b.lines ++ l ∷ [] }
 
+-- a line with a result
 abbrev pub appended : Line → Draft → Emitted
 appended l b = record { to = append l b; val = Of (length b.lines) }
 
+-- an operator makes one line, after the lines of its operands from left to right
 abbrev pub emit : (ℕ → Val) → Expr → Draft → Emitted
 emit ns (Cur p) b = record { to = b; val = spot p b.regs (Num 0) }
 emit ns (Got k) b = record { to = b; val = ns k }
@@ -121,18 +133,25 @@ emit ns (Sel x y z) b =
     let p = emit ns x b in let q = emit ns y p.to in let r = emit ns z q.to in
     appended (Select p.val q.val r.val) r.to
 
+-- the lines of a row so far, and what it has named
 pub record Rowed : Type 0 where
   pub draft : Draft
   pub vals : ℕ → Val
 
+-- a step of a row: a value is made where it is named
 unfoldable pub row_step : Step → Rowed → Rowed
 row_step (Name k e) r = let p = emit r.vals e r.draft in record { draft = p.to; vals = put k p.val r.vals }
-row_step (Fetch k w at) r = let p = emit r.vals at r.draft in let q = appended (Load w p.val) p.to in record { draft = q.to; vals = put k q.val r.vals }
-row_step (Put v e) r = let p = emit r.vals e r.draft in record { draft = record p.to { regs = with_spot v p.val p.to.regs }; vals = r.vals }
+row_step (Fetch k w at) r =
+    let p = emit r.vals at r.draft in let q = appended (Load w p.val) p.to in
+    record { draft = q.to; vals = put k q.val r.vals }
+row_step (Put v e) r =
+    let p = emit r.vals e r.draft in
+    record { draft = record p.to { regs = with_spot v p.val p.to.regs }; vals = r.vals }
 row_step (Write w at e) r =
     let p = emit r.vals at r.draft in let q = emit r.vals e p.to in
     record { draft = append (Store w p.val q.val) q.to; vals = r.vals }
 
+-- steps one after another
 abbrev pub row_steps : List Step → Rowed → Rowed
 row_steps [] r = r
 row_steps (x ∷ xs) r = row_steps xs (row_step x r)

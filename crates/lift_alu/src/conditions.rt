@@ -2,7 +2,7 @@
 ghost use Rattle.std.specs.Prelude.{◌≡◌, ◌<◌};
 ghost use Rattle.lift_alu.specs.Steps.{Name, row_step, row_steps};
 ghost use Rattle.lift_alu.specs.Table.{even_expr, condition_expr, row_setcc, row_cmov};
-ghost use Rattle.lift_alu.specs.Making.{rowed, HasRoom, Grew, made_of};
+ghost use Rattle.lift_alu.specs.Making.{rowed, HasRoom, Grew, made_of, made};
 
 use crate::names::{AT_SRC, B, R};
 use crate::row::Atom::{Cur, Got, Lit};
@@ -16,7 +16,7 @@ impl Row {
     #[tactic(auto, using(crate::proofs::Making::both_made))]
     fn less_or_equal(&mut self) -> Val
         requires { HasRoom self.old 2 }
-        ensures made { record { row = rowed self.new; val = result } ≡ made_of (even_expr 7) (rowed self.old) }
+        ensures made { made self.new result ≡ made_of (even_expr 7) (rowed self.old) }
         ensures grown { Grew self.old self.new 2 }
     {
         let zero = self.same(Cur(Spot::InZf));
@@ -27,7 +27,7 @@ impl Row {
     /// The even condition 2c (SDM volume 1, appendix B).
     fn even(&mut self, c: u8) -> Val
         requires { HasRoom self.old 2 }
-        ensures made { record { row = rowed self.new; val = result } ≡ made_of (even_expr c) (rowed self.old) }
+        ensures made { made self.new result ≡ made_of (even_expr c) (rowed self.old) }
         ensures grown { Grew self.old self.new 2 }
     {
         match c {
@@ -46,7 +46,7 @@ impl Row {
     #[tactic(auto, using(crate::proofs::Making::with_made))]
     fn condition(&mut self, c: u8) -> Val
         requires { HasRoom self.old 3 }
-        ensures made { record { row = rowed self.new; val = result } ≡ made_of (condition_expr c) (rowed self.old) }
+        ensures made { made self.new result ≡ made_of (condition_expr c) (rowed self.old) }
         ensures grown { Grew self.old self.new 3 }
     {
         let even = self.even(c / 2);

@@ -4,7 +4,7 @@ ghost use Rattle.ssa_form.specs.declared.form.BinOp.TheVariants.{And, Or, Shl, S
 ghost use Rattle.lift_alu.specs.Steps.{Cur, Gpr, Got, Lit, Op, Put, Name, row_step, row_steps};
 ghost use Rattle.lift_alu.specs.Operands.{masked, read_reg, write_reg, scaled, plus_disp, address_expr, place, read_operand, write_operand, source_place, read_source};
 ghost use Rattle.lift_alu.specs.Table.{set_a, set_b, write_new};
-ghost use Rattle.lift_alu.specs.Making.{atom_expr, form_expr, rowed, HasRoom, Grew, made_of, masked_of, disp_of};
+ghost use Rattle.lift_alu.specs.Making.{atom_expr, form_expr, rowed, HasRoom, Grew, made_of, masked_of, disp_of, made};
 
 use crate::names::{A, AT_DST, AT_SRC, B};
 use crate::row::{Atom, Form, Row, Spot};
@@ -16,7 +16,7 @@ impl Row {
     #[tactic(auto, unfolding(crate::specs::Making::masked_of))]
     pub fn masked(&mut self, w: Width, v: Val) -> Val
         requires { HasRoom self.old 1 }
-        ensures made { record { row = rowed self.new; val = result } ≡ masked_of w v (rowed self.old) }
+        ensures made { made self.new result ≡ masked_of w v (rowed self.old) }
         ensures grown { Grew self.old self.new 1 }
     {
         match w {
@@ -45,7 +45,7 @@ impl Row {
     #[tactic(auto, using(crate::proofs::Making::with_made))]
     fn high_byte(&mut self, register: u8) -> Val
         requires { HasRoom self.old 2 }
-        ensures made { record { row = rowed self.new; val = result } ≡ made_of (Op And (Op Shr (Cur (Gpr register)) (Lit 8)) (Lit 0xFF)) (rowed self.old) }
+        ensures made { made self.new result ≡ made_of (Op And (Op Shr (Cur (Gpr register)) (Lit 8)) (Lit 0xFF)) (rowed self.old) }
         ensures grown { Grew self.old self.new 2 }
     {
         let high = self.value(Form::Op(BinOp::Shr, Atom::Cur(Spot::Gpr(register)), Atom::Lit(8)));
@@ -55,7 +55,7 @@ impl Row {
     /// A register at a width: at 8 bits 4 to 7 are AH, CH, DH and BH.
     fn read_reg(&mut self, w: Width, register: u8) -> Val
         requires { HasRoom self.old 2 }
-        ensures made { record { row = rowed self.new; val = result } ≡ made_of (read_reg w register) (rowed self.old) }
+        ensures made { made self.new result ≡ made_of (read_reg w register) (rowed self.old) }
         ensures grown { Grew self.old self.new 2 }
     {
         let whole = Atom::Cur(Spot::Gpr(register));
@@ -141,7 +141,7 @@ impl Row {
     /// A register times a scale of 1, 2, 4 or 8.
     fn scaled(&mut self, register: u8, scale: u8) -> Val
         requires { HasRoom self.old 1 }
-        ensures made { record { row = rowed self.new; val = result } ≡ made_of (scaled register scale) (rowed self.old) }
+        ensures made { made self.new result ≡ made_of (scaled register scale) (rowed self.old) }
         ensures grown { Grew self.old self.new 1 }
     {
         let whole = Atom::Cur(Spot::Gpr(register));
@@ -160,7 +160,7 @@ impl Row {
     #[tactic(auto, using(crate::proofs::Making::both_made))]
     fn base_and_index(&mut self, base: u8, index: u8, scale: u8) -> Val
         requires { HasRoom self.old 2 }
-        ensures made { record { row = rowed self.new; val = result } ≡ made_of (Op BinOp.Add (Cur (Gpr base)) (scaled index scale)) (rowed self.old) }
+        ensures made { made self.new result ≡ made_of (Op BinOp.Add (Cur (Gpr base)) (scaled index scale)) (rowed self.old) }
         ensures grown { Grew self.old self.new 2 }
     {
         let first = self.same(Atom::Cur(Spot::Gpr(base)));
@@ -172,7 +172,7 @@ impl Row {
     #[tactic(auto, unfolding(crate::specs::Making::disp_of))]
     fn plus_disp(&mut self, v: Val, disp: u32) -> Val
         requires { HasRoom self.old 1 }
-        ensures made { record { row = rowed self.new; val = result } ≡ disp_of v disp (rowed self.old) }
+        ensures made { made self.new result ≡ disp_of v disp (rowed self.old) }
         ensures grown { Grew self.old self.new 1 }
     {
         if disp == 0 {
@@ -186,7 +186,7 @@ impl Row {
     #[tactic(auto, using(crate::proofs::Making::disp_made))]
     fn address(&mut self, addr: &Addr) -> Val
         requires { HasRoom self.old 3 }
-        ensures made { record { row = rowed self.new; val = result } ≡ made_of (address_expr addr.now) (rowed self.old) }
+        ensures made { made self.new result ≡ made_of (address_expr addr.now) (rowed self.old) }
         ensures grown { Grew self.old self.new 3 }
     {
         match (addr.base, addr.index) {

@@ -2,7 +2,7 @@
 ghost use Rattle.std.specs.Prelude.{◌≡◌, ◌<◌, length};
 ghost use Rattle.ssa_form.specs.declared.form.Line.TheVariants.{Bin, Load, Store, One};
 ghost use Rattle.lift_alu.specs.Steps.{row_step, Name, Fetch, Put, Write};
-ghost use Rattle.lift_alu.specs.Making.{atom_expr, form_expr, index_of, rowed, HasRoom, Grew, with_line, with_name, with_out, line_made, made_of, atom_of};
+ghost use Rattle.lift_alu.specs.Making.{atom_expr, form_expr, index_of, rowed, HasRoom, Grew, with_line, with_name, with_out, line_made, made_of, atom_of, made};
 
 use ssa_form::{BinOp, Line, OneOp, REGISTERS, Val, Width};
 
@@ -97,7 +97,7 @@ impl Row {
     #[tactic(auto, unfolding(crate::specs::Making::rowed, crate::specs::Making::line_made))]
     pub fn line(&mut self, line: Line) -> Val
         requires { HasRoom self.old 1 }
-        ensures made { record { row = rowed self.new; val = result } ≡ line_made line (rowed self.old) }
+        ensures made { made self.new result ≡ line_made line (rowed self.old) }
         ensures grown { Grew self.old self.new 1 }
     {
         let at = self.lines.len() as u32;
@@ -168,7 +168,7 @@ impl Row {
     /// An operator of two values.
     pub fn bin(&mut self, op: BinOp, a: Val, b: Val) -> Val
         requires { HasRoom self.old 1 }
-        ensures made { record { row = rowed self.new; val = result } ≡ line_made (Bin op a b) (rowed self.old) }
+        ensures made { made self.new result ≡ line_made (Bin op a b) (rowed self.old) }
         ensures grown { Grew self.old self.new 1 }
     {
         self.line(Line::Bin { op, a, b })
@@ -177,7 +177,7 @@ impl Row {
     /// An operator of a value and an atom.
     pub fn with(&mut self, op: BinOp, a: Val, atom: Atom) -> Val
         requires { HasRoom self.old 1 }
-        ensures made { record { row = rowed self.new; val = result } ≡ line_made (Bin op a (atom_of atom (rowed self.old))) (rowed self.old) }
+        ensures made { made self.new result ≡ line_made (Bin op a (atom_of atom (rowed self.old))) (rowed self.old) }
         ensures grown { Grew self.old self.new 1 }
     {
         let b = self.atom(atom);
@@ -187,7 +187,7 @@ impl Row {
     /// The lines of a form, one at most.
     pub fn value(&mut self, form: Form) -> Val
         requires { HasRoom self.old 1 }
-        ensures made { record { row = rowed self.new; val = result } ≡ made_of (form_expr form) (rowed self.old) }
+        ensures made { made self.new result ≡ made_of (form_expr form) (rowed self.old) }
         ensures grown { Grew self.old self.new 1 }
     {
         match form {
@@ -201,7 +201,7 @@ impl Row {
     /// An atom as an expression, without a line.
     #[tactic(auto, using(crate::proofs::Making::atom_made))]
     pub fn same(&mut self, atom: Atom) -> Val
-        ensures made { record { row = rowed self.new; val = result } ≡ made_of (atom_expr atom) (rowed self.old) }
+        ensures made { made self.new result ≡ made_of (atom_expr atom) (rowed self.old) }
         ensures grown { Grew self.old self.new 0 }
     {
         self.atom(atom)
@@ -211,7 +211,7 @@ impl Row {
     #[tactic(auto, using(crate::proofs::Making::pair_made))]
     fn pair(&mut self, op: BinOp, a: Atom, b: Atom) -> Val
         requires { HasRoom self.old 1 }
-        ensures made { record { row = rowed self.new; val = result } ≡ made_of (form_expr (Form.Op op a b)) (rowed self.old) }
+        ensures made { made self.new result ≡ made_of (form_expr (Form.Op op a b)) (rowed self.old) }
         ensures grown { Grew self.old self.new 1 }
     {
         let first = self.atom(a);
@@ -222,7 +222,7 @@ impl Row {
     #[tactic(auto, using(crate::proofs::Making::one_made))]
     fn one(&mut self, op: OneOp, a: Atom) -> Val
         requires { HasRoom self.old 1 }
-        ensures made { record { row = rowed self.new; val = result } ≡ made_of (form_expr (Form.One op a)) (rowed self.old) }
+        ensures made { made self.new result ≡ made_of (form_expr (Form.One op a)) (rowed self.old) }
         ensures grown { Grew self.old self.new 1 }
     {
         let a = self.atom(a);
@@ -233,7 +233,7 @@ impl Row {
     #[tactic(auto, using(crate::proofs::Making::select_made))]
     fn select(&mut self, c: Atom, a: Atom, b: Atom) -> Val
         requires { HasRoom self.old 1 }
-        ensures made { record { row = rowed self.new; val = result } ≡ made_of (form_expr (Form.Sel c a b)) (rowed self.old) }
+        ensures made { made self.new result ≡ made_of (form_expr (Form.Sel c a b)) (rowed self.old) }
         ensures grown { Grew self.old self.new 1 }
     {
         let c = self.same(c);

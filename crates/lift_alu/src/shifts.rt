@@ -5,7 +5,7 @@ ghost use Rattle.ssa_form.specs.declared.form.BinOp.TheVariants as binary;
 ghost use Rattle.lift_alu.specs.Steps as steps;
 ghost use Rattle.lift_alu.specs.Steps.{Name, row_step, row_steps};
 ghost use Rattle.lift_alu.specs.Table.{unless_none, count_expr, shifted_operand, shift_line, carry_line, overflow_line, row_shift};
-ghost use Rattle.lift_alu.specs.Making.{form_expr, rowed, HasRoom, Grew, made_of, shift_flags, shift_operands};
+ghost use Rattle.lift_alu.specs.Making.{form_expr, rowed, HasRoom, Grew, made_of, shift_flags, shift_operands, made};
 
 use crate::flags::top;
 use crate::moves::extended;
@@ -99,7 +99,7 @@ impl Row {
     #[tactic(auto, using(crate::proofs::Making::with_made))]
     fn sign_and_carry(&mut self, w: Width) -> Val
         requires { HasRoom self.old 2 }
-        ensures made { record { row = rowed self.new; val = result } ≡ made_of (overflow_line ShiftOp.Shl w) (rowed self.old) }
+        ensures made { made self.new result ≡ made_of (overflow_line ShiftOp.Shl w) (rowed self.old) }
         ensures grown { Grew self.old self.new 2 }
     {
         let sign = self.value(Op(BinOp::Shr, Got(R), Lit(top(w))));
@@ -109,7 +109,7 @@ impl Row {
     /// OF of a shift, where the count is not 0.
     fn overflow_of(&mut self, op: ShiftOp, w: Width) -> Val
         requires { HasRoom self.old 2 }
-        ensures made { record { row = rowed self.new; val = result } ≡ made_of (overflow_line op w) (rowed self.old) }
+        ensures made { made self.new result ≡ made_of (overflow_line op w) (rowed self.old) }
         ensures grown { Grew self.old self.new 2 }
     {
         match op {

@@ -73,10 +73,28 @@ fn blocks_and_their_exits(rt: HostRuntime) -> Result<(), Fail> {
     // a transfer without lines, and one with two
     let jump = block_at(&rt, alloc, &exe, START + 3)?;
     assert_eq!(rt; jump.lines.len(), 0);
-    assert!(rt; matches!(jump.exit, Exit::Cond { test: Val::Param(10), taken: 0x0804_8000, next: 0x0804_8005 }));
+    assert!(rt;
+        matches!(
+            jump.exit,
+            Exit::Cond {
+                test: Val::Param(10),
+                taken: 0x0804_8000,
+                next: 0x0804_8005
+            }
+        )
+    );
     let ret = block_at(&rt, alloc, &exe, START + 5)?;
     assert_eq!(rt; ret.lines.len(), 2);
-    assert!(rt; matches!(ret.lines.line(1), Line::Bin { op: BinOp::Add, a: Val::Param(4), b: Val::Num(4) }));
+    assert!(rt;
+        matches!(
+            ret.lines.line(1),
+            Line::Bin {
+                op: BinOp::Add,
+                a: Val::Param(4),
+                b: Val::Num(4)
+            }
+        )
+    );
     assert!(rt; matches!(ret.exit, Exit::Way(Val::Line(0))));
     // before bytes that spell nothing, and none at all
     let last = block_at(&rt, alloc, &exe, START + 6)?;
@@ -99,7 +117,16 @@ fn sixty_four_instructions(rt: HostRuntime) -> Result<(), Fail> {
     assert!(rt; matches!(full.exit, Exit::Jump(0x0804_8040)));
     let rest = block_at(&rt, alloc, &exe, START + 64)?;
     assert_eq!(rt; rest.lines.len(), 16);
-    assert!(rt; matches!(rest.lines.line(8), Line::Bin { op: BinOp::Add, a: Val::Line(0), b: Val::Num(1) }));
+    assert!(rt;
+        matches!(
+            rest.lines.line(8),
+            Line::Bin {
+                op: BinOp::Add,
+                a: Val::Line(0),
+                b: Val::Num(1)
+            }
+        )
+    );
     assert!(rt; matches!(rest.exit, Exit::Jump(0x0804_8042)));
     Ok(())
 }

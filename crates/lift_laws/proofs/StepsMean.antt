@@ -1,5 +1,5 @@
 -- The lines of a block do what its steps do, one instruction after another.
-use Rattle.std.proofs.Common.{◌≡◌, ◌≢◌, ℕ, zero, suc, ◌+◌, ◌-◌, ◌<◌, Bool, true, false, ◌&&◌, List, [], ◌∷◌, ◌++◌, length, drop, get_or, All, Option, Some, None, refl, sym, ap, ◌∙◌, subst, append_assoc, length-append, arith}
+use Rattle.std.proofs.Common.{◌≡◌, ◌≢◌, ℕ, zero, suc, ◌+◌, ◌-◌, ◌<◌, ◌≤◌, Bool, true, false, ◌&&◌, List, [], ◌∷◌, ◌++◌, length, drop, get_or, All, Option, Some, None, refl, sym, ap, ◌∙◌, subst, append_assoc, length-append, arith}
 use Rattle.std.specs.Prelude.{IsTrue, if◌then◌else◌}
 use Rattle.std.proofs.lemmas.List.Sums.{sum_by-cons}
 use Rattle.std.proofs.lemmas.List.{append-nil}
@@ -24,7 +24,8 @@ use Rattle.block_cut.specs.declared.ends.End.{End}
 use Rattle.block_cut.specs.declared.ends.End.TheVariants.{Transfer, Island, BeforeIsland, Unreadable, Full}
 use Rattle.block_cut.specs.Places.{Placed, found_at}
 use Rattle.block_cut.specs.Blocks.{StandFrom, ArePlain, EndWith, EndsSo, IsBlock, block_of, size_of, EachHasOneBlock}
-use Rattle.run_model.specs.Run.{AreBytes, run, WellDefined}
+use Rattle.run_model.specs.Run.{AreBytes, observed, run, WellDefined}
+use Rattle.sim_laws.specs.ByKind.{IsQuiet}
 use Rattle.run_model.specs.Sound.{HoldBytes, IsSound}
 use Rattle.sim_laws.specs.InCode.{IsStateOf}
 use Rattle.sim_laws.specs.Through.{Comes, RunsThrough}
@@ -271,3 +272,27 @@ module _ (asks : AsksExactly) (read : ReadIsValid) (mean : EachMeans) (stays : E
       let led = all_lead is (blank s.eip) (start_env p s.regions) s begins h r here.stand (almost_plain exe (s.eip + size_of is) is b.end n here.ends) w in
       lifted_gives (lifted_to b.end is s.eip) p s.regions (run (length is) s []) (lifted_all is (blank s.eip)) (lifted_plain b.end is s.eip n)
       (given (lifted_all is (blank s.eip)) s.eip p s.regions (run (length is) s []) led)
+
+  -- ---- what is seen of a block
+  quiet_step : (i : Inst) (n : ℕ) (s : State) → Nexts i n s → IsQuiet s (step s 0)
+  quiet_step i n s x = record { seen = ap observed x.state; brk = ap (λ (t : State). t.brk) x.state }
+
+  quiet_on : (s t u : State) → IsQuiet s t → IsQuiet t u → IsQuiet s u
+  quiet_on s t u a b = record { seen = b.seen ∙ a.seen; brk = b.brk ∙ a.brk }
+
+  all_quiet : (is : List Placed) (s : State) (j : ℕ) → j ≤ length is → StandFrom exe s.eip is → AreAlmostPlain is → IsStateOf exe s → s.stop ≡ Running → WellDefined j s → IsQuiet s (run j s [])
+  all_quiet is s zero l st k h r w = record { seen = refl; brk = refl }
+  all_quiet [] s (suc j) l st k h r w = absurd (omega arith)
+  all_quiet (p ∷ []) s (suc zero) l st k h r w =
+      quiet_step p.inst p.size s (next_of s p.inst p.size h r st.1 (lifted_kind (kind_of p.inst) k) w.0)
+  all_quiet (p ∷ []) s (suc (suc j)) l st k h r w = absurd (omega arith)
+  all_quiet (p ∷ q ∷ qs) s (suc j) l st k h r w =
+      let on = plain_on p s h r st.0 st.1 k.0 w.0 in
+      quiet_on s (step s 0) (run j (step s 0) []) on.0.quiet
+      (all_quiet (q ∷ qs) (step s 0) j (omega arith) (subst (λ (at : ℕ). StandFrom exe at (q ∷ qs)) (sym on.1) st.2) k.1 on.0.of on.0.running w.1)
+
+  pub block_quiet : EachHasOneBlock → (s : State) (j : ℕ) → IsStateOf exe s → s.stop ≡ Running → (block_of exe s.eip).end ≢ Island → j ≤ length (block_of exe s.eip).insts → WellDefined j s → IsQuiet s (run j s [])
+  block_quiet one s j h r n l w =
+      let b = block_of exe s.eip in
+      let here : IsBlock exe s.eip b = (one exe s.eip b).1 refl in
+      all_quiet b.insts s j l here.stand (almost_plain exe (s.eip + size_of b.insts) b.insts b.end n here.ends) h r w

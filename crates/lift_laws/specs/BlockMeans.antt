@@ -1,5 +1,5 @@
 -- The lines of a block do what its steps do.
-use Rattle.std.specs.Prelude.{◌≡◌, ◌≢◌, ℕ, List, [], length}
+use Rattle.std.specs.Prelude.{◌≡◌, ◌≢◌, ◌≤◌, ℕ, List, [], length}
 use Rattle.br_word.specs.Memory.{Region}
 use Rattle.br_word.specs.State.{State, Running}
 use Rattle.elf_read.specs.declared.exe.Exe.{Exe}
@@ -7,6 +7,7 @@ use Rattle.elf_read.specs.Elf.{IsGuest}
 use Rattle.block_cut.specs.declared.ends.End.TheVariants.{Island}
 use Rattle.block_cut.specs.Blocks.{block_of}
 use Rattle.run_model.specs.Run.{run, WellDefined}
+use Rattle.sim_laws.specs.ByKind.{IsQuiet}
 use Rattle.sim_laws.specs.InCode.{IsStateOf}
 use Rattle.ssa_form.specs.declared.form.Block.{Block}
 use Rattle.ssa_form.specs.Value.{Env, outs_of, exit_of}
@@ -31,3 +32,9 @@ BlockMeans = (exe : Exe) (s : State) (p : ℕ → ℕ)
     → AgreesOn every s.cpu p → AreBits p
     → let n = length (block_of exe s.eip).insts in WellDefined n s
     → Gives (lift_of exe s.eip) p s.regions (run n s [])
+
+-- up to its end, where its steps so far are well defined, nothing is seen of it, and the break stays
+abbrev pub BlocksAreQuiet : Type 0
+BlocksAreQuiet = (exe : Exe) (s : State) (j : ℕ)
+    → IsGuest exe → IsStateOf exe s → s.stop ≡ Running → (block_of exe s.eip).end ≢ Island
+    → j ≤ length (block_of exe s.eip).insts → WellDefined j s → IsQuiet s (run j s [])

@@ -3,4 +3,4 @@
 
 mod law;
 
-pub use law::block_means;
+pub use law::{block_means, blocks_are_quiet};

@@ -27,7 +27,7 @@ returns-in_ok-lift_all-in_default c =
     let plain : (block_of c.args.exe.now c.args.start).end ≢ Island = λ e. c.in_default.not-Island (ap (λ (x : Cut). x.end) c.cut-cut.ensures.block ∙ e) in
     record {
       lines = plain_is c.args.exe.now c.args.start c.lift_all.new.block plain
-      (c.in_ok-lift_all-in_default.ensures.lines ∙ ap (λ (b : Block). lifted_all (block_of c.args.exe.now c.args.start).insts b) c.blank-block.ensures);
+          (c.in_ok-lift_all-in_default.ensures.lines ∙ ap (λ (b : Block). lifted_all (block_of c.args.exe.now c.args.start).insts b) c.blank-block.ensures);
       few = c.lift_all.ensures.few;
       whole = c.lift_all.ensures.whole;
     }
