@@ -66,7 +66,7 @@ impl Row {
         ensures grown { Grew self.old self.new 3 }
     {
         let test = self.condition(c);
-        self.call(name, test);
+        self.assign(name, test);
     }
 }
 

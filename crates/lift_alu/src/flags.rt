@@ -45,7 +45,7 @@ impl Row {
         let other = self.value(second);
         let both = self.bin(BinOp::And, one, other);
         let sign = self.with(BinOp::Shr, both, Lit(top(w)));
-        self.hold(Spot::InOf, sign);
+        self.set_out(Spot::InOf, sign);
     }
 
     /// PF, ZF and SF follow a sum, and OF says whether its sign is neither operand's.

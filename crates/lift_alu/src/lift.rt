@@ -2,6 +2,7 @@
 ghost use Rattle.std.specs.Prelude.{◌≡◌, ◌≤◌, ◌+◌, [], true, length, IfOk, IsTrue, MatchResult};
 ghost use Rattle.ia_inst.specs.Canonical.{valid_of};
 ghost use Rattle.ssa_form.specs.Checked.{checked};
+ghost use Rattle.ssa_form.specs.Same.{SpellsWords};
 ghost use Rattle.lift_alu.specs.Steps.{Rowed, row_steps, unnamed};
 ghost use Rattle.lift_alu.specs.Lifted.{row_alu, row_of, leaving_of, exit_by, draft_of, lifted};
 ghost use Rattle.lift_alu.specs.Making.{rowed, HasRoom};
@@ -141,7 +142,8 @@ fn exit_of(row: &Row, inst: &Inst, next: u32) -> Exit
 /// any other instruction. A native instruction has no lines.
 ///
 /// The lines are those of the table, and a checked block stays checked. A valid instruction has at most 32
-/// lines. An error comes where memory is short, and then the block stays as it is.
+/// lines, and spells out numbers of 32 bits. An error comes where memory is short, and then the block stays
+/// as it is.
 pub fn lift_inst(
     alloc: Global,
     block: &mut Block,
@@ -153,6 +155,7 @@ pub fn lift_inst(
     ensures lines { MatchResult result (λ done. block.new ≡ lifted inst.now at len block.old) (λ short. block.new ≡ block.old) }
     ensures few { IsTrue (valid_of inst.now) → length block.new.lines ≤ length block.old.lines + 32 }
     ensures whole { checked block.old ≡ true → checked block.new ≡ true }
+    ensures words { IsTrue (valid_of inst.now) → SpellsWords block.old → SpellsWords block.new }
 {
     let mut row = open(alloc, block)?;
     let next = at.wrapping_add(len as u32);

@@ -2,7 +2,8 @@
 ghost use Rattle.std.specs.Prelude.{◌≡◌, ◌<◌, ◌≤◌, []};
 ghost use Rattle.ssa_form.specs.declared.form.BinOp.TheVariants.{And, Or, Shl, Shr};
 ghost use Rattle.lift_alu.specs.Steps.{Cur, Gpr, Got, Lit, Op, Put, Name, row_step, row_steps};
-ghost use Rattle.lift_alu.specs.Operands.{masked, read_reg, write_reg, scaled, plus_disp, address_expr, place, read_operand, write_operand, source_place, read_source};
+ghost use Rattle.lift_alu.specs.Operands.{masked, read_reg, write_reg, with_low, with_high};
+ghost use Rattle.lift_alu.specs.Operands.{scaled, plus_disp, address_expr, place, read_operand, write_operand, source_place, read_source};
 ghost use Rattle.lift_alu.specs.Table.{set_a, set_b, write_new};
 ghost use Rattle.lift_alu.specs.Making.{atom_expr, form_expr, rowed, HasRoom, Grew, made_of, masked_of, disp_of, made};
 
@@ -36,7 +37,7 @@ impl Row {
     {
         let whole = self.value(form);
         let low = self.masked(w, whole);
-        self.call(name, low);
+        self.assign(name, low);
     }
 
     // ---- registers
@@ -81,14 +82,14 @@ impl Row {
         ensures grown { Grew self.old self.new 2 }
     {
         let val = self.read_reg(w, register);
-        self.call(name, val);
+        self.assign(name, val);
     }
 
     /// The low bits of a register are replaced: `kept` has the bits that stay.
     #[tactic(auto, using(crate::proofs::Making::with_made, crate::proofs::Making::out_made))]
     fn write_low(&mut self, register: u8, kept: u32, name: u8)
         requires { HasRoom self.old 2 }
-        ensures made { rowed self.new ≡ row_step (Put (Gpr register) (Op Or (Op And (Cur (Gpr register)) (Lit kept)) (Got name))) (rowed self.old) }
+        ensures made { rowed self.new ≡ row_step (Put (Gpr register) (with_low register kept (Got name))) (rowed self.old) }
         ensures grown { Grew self.old self.new 2 }
     {
         let rest = self.value(Form::Op(
@@ -97,14 +98,14 @@ impl Row {
             Atom::Lit(kept),
         ));
         let whole = self.with(BinOp::Or, rest, Atom::Got(name));
-        self.hold(Spot::Gpr(register), whole);
+        self.set_out(Spot::Gpr(register), whole);
     }
 
     /// The second byte of a register is replaced.
     #[tactic(auto, using(crate::proofs::Making::both_made, crate::proofs::Making::out_made))]
     fn write_high(&mut self, register: u8, name: u8)
         requires { HasRoom self.old 3 }
-        ensures made { rowed self.new ≡ row_step (Put (Gpr register) (Op Or (Op And (Cur (Gpr register)) (Lit 0xFFFF00FF)) (Op Shl (Got name) (Lit 8)))) (rowed self.old) }
+        ensures made { rowed self.new ≡ row_step (Put (Gpr register) (with_high register (Got name))) (rowed self.old) }
         ensures grown { Grew self.old self.new 3 }
     {
         let rest = self.value(Form::Op(
@@ -114,7 +115,7 @@ impl Row {
         ));
         let high = self.value(Form::Op(BinOp::Shl, Atom::Got(name), Atom::Lit(8)));
         let whole = self.bin(BinOp::Or, rest, high);
-        self.hold(Spot::Gpr(register), whole);
+        self.set_out(Spot::Gpr(register), whole);
     }
 
     /// A register gets what a name stands for, at a width.
@@ -216,7 +217,7 @@ impl Row {
     {
         let whole = self.address(addr);
         let low = self.masked(w, whole);
-        self.call(name, low);
+        self.assign(name, low);
     }
 
     // ---- operands
@@ -233,7 +234,7 @@ impl Row {
             Rm::Reg(_) => self.name(name, Form::Is(Atom::Lit(0))),
             Rm::Mem(addr) => {
                 let at = self.address(addr);
-                self.call(name, at);
+                self.assign(name, at);
             }
         }
     }

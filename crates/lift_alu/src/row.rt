@@ -120,7 +120,7 @@ impl Row {
 
     /// A virtual register holds a value from now on.
     #[tactic(auto, using(crate::proofs::Outs::spot_set), unfolding(crate::specs::Making::rowed))]
-    pub fn hold(&mut self, spot: Spot, val: Val)
+    pub fn set_out(&mut self, spot: Spot, val: Val)
         ensures made { rowed self.new ≡ with_out spot val (rowed self.old) }
         ensures grown { Grew self.old self.new 0 }
     {
@@ -145,7 +145,7 @@ impl Row {
 
     /// A name stands for a value from now on.
     #[tactic(auto, using(crate::proofs::Making::vals_put), unfolding(crate::specs::Making::rowed))]
-    pub fn call(&mut self, name: u8, val: Val)
+    pub fn assign(&mut self, name: u8, val: Val)
         requires { name < 10 }
         ensures made { rowed self.new ≡ with_name name val (rowed self.old) }
         ensures grown { Grew self.old self.new 0 }
@@ -253,7 +253,7 @@ impl Row {
         ensures grown { Grew self.old self.new 1 }
     {
         let val = self.value(form);
-        self.call(name, val);
+        self.assign(name, val);
     }
 
     /// A virtual register gets a value.
@@ -264,7 +264,7 @@ impl Row {
         ensures grown { Grew self.old self.new 1 }
     {
         let val = self.value(form);
-        self.hold(spot, val);
+        self.set_out(spot, val);
     }
 
     /// Names what memory holds.
@@ -277,7 +277,7 @@ impl Row {
     {
         let at = self.atom(at);
         let val = self.line(Line::Load { w, at });
-        self.call(name, val);
+        self.assign(name, val);
     }
 
     /// Memory gets a value.

@@ -1,10 +1,8 @@
 //! The row of SHL, SHR and SAR.
 ghost use Rattle.std.specs.Prelude.{◌≡◌, ◌+◌, [], ◌∷◌};
 ghost use Rattle.br_word.specs.Words.{bits_of};
-ghost use Rattle.ssa_form.specs.declared.form.BinOp.TheVariants as binary;
-ghost use Rattle.lift_alu.specs.Steps as steps;
 ghost use Rattle.lift_alu.specs.Steps.{Name, row_step, row_steps};
-ghost use Rattle.lift_alu.specs.Table.{unless_none, count_expr, shifted_operand, shift_line, carry_line, overflow_line, row_shift};
+ghost use Rattle.lift_alu.specs.Table.{unless_none, count_expr, shifted_operand, shift_line, last_bit, carry_line, overflow_line, row_shift};
 ghost use Rattle.lift_alu.specs.Making.{form_expr, rowed, HasRoom, Grew, made_of, shift_flags, shift_operands, made};
 
 use crate::flags::top;
@@ -55,14 +53,14 @@ impl Row {
     #[tactic(auto, using(crate::proofs::Making::both_made, crate::proofs::Making::with_made, crate::proofs::Making::name_made))]
     fn last_bit(&mut self, op: BinOp, places: Form)
         requires { HasRoom self.old 3 }
-        ensures made { rowed self.new ≡ row_step (Name 8 (steps.Op binary.And (steps.Op op (steps.Got 5) (form_expr places)) (steps.Lit 1))) (rowed self.old) }
+        ensures made { rowed self.new ≡ row_step (Name 8 (last_bit op (form_expr places))) (rowed self.old) }
         ensures grown { Grew self.old self.new 3 }
     {
         let whole = self.same(Got(S));
         let places = self.value(places);
         let moved = self.bin(op, whole, places);
         let low = self.with(BinOp::And, moved, Lit(1));
-        self.call(K, low);
+        self.assign(K, low);
     }
 
     /// Names the last bit that is shifted out.
@@ -92,7 +90,7 @@ impl Row {
         let a = self.same(Cur(flag));
         let b = self.value(form);
         let kept = self.line(Line::Select { c, a, b });
-        self.hold(flag, kept);
+        self.set_out(flag, kept);
     }
 
     /// The sign of the result of SHL is not the carry.
@@ -130,7 +128,7 @@ impl Row {
         let a = self.same(Cur(Spot::InOf));
         let b = self.overflow_of(op, w);
         let kept = self.line(Line::Select { c, a, b });
-        self.hold(Spot::InOf, kept);
+        self.set_out(Spot::InOf, kept);
     }
 
     /// PF, ZF and SF follow the result, and keep their own where the count is 0.

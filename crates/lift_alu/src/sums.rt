@@ -24,7 +24,7 @@ impl Row {
         let one = self.value(first);
         let other = self.value(second);
         let both = self.bin(BinOp::Or, one, other);
-        self.hold(Spot::InCf, both);
+        self.set_out(Spot::InCf, both);
     }
 }
 

@@ -13,7 +13,9 @@ use Rattle.block_cut.specs.Places.{Placed, found_at, inst_found}
 use Rattle.block_cut.specs.Blocks.{BasicBlock, StandFrom, IsBlock, EndsSo, size_of, block_of, EachHasOneBlock}
 use Rattle.ssa_form.specs.declared.form.Block.{Block}
 use Rattle.lift_alu.specs.Lifted.{lifted}
-use Rattle.lift_flow.specs.LiftedBlock.{blank, lifted_all, lifted_to, lift_of}
+use Rattle.ssa_form.specs.declared.form.Val.TheVariants.{Num}
+use Rattle.ssa_form.specs.Same.{IsWord, SpellsWords}
+use Rattle.lift_flow.specs.LiftedBlock.{params, blank, lifted_all, lifted_to, lift_of}
 
 nothing : Placed
 nothing = record { at = 0; inst = Nop; size = 0 }
@@ -105,3 +107,24 @@ pub lifted_native : (exe : Exe) (start n : ℕ) → (block_of exe start).end ≡
 unfolding lift_of
 lifted_native exe start n e q =
     sym (ap (λ x. lifted_to x (block_of exe start).insts start) e ∙ ap (λ m. record (blank start) { exit = Rattle.ssa_form.specs.declared.form.Exit.TheVariants.Island m }) q)
+
+-- ---- what a block without lines spells out
+params_words : (v : ℕ) → IsWord (get_or params v (Num 0))
+params_words zero = tt
+params_words (suc zero) = tt
+params_words (suc (suc zero)) = tt
+params_words (suc (suc (suc zero))) = tt
+params_words (suc (suc (suc (suc zero)))) = tt
+params_words (suc (suc (suc (suc (suc zero))))) = tt
+params_words (suc (suc (suc (suc (suc (suc zero)))))) = tt
+params_words (suc (suc (suc (suc (suc (suc (suc zero))))))) = tt
+params_words (suc (suc (suc (suc (suc (suc (suc (suc zero)))))))) = tt
+params_words (suc (suc (suc (suc (suc (suc (suc (suc (suc zero))))))))) = tt
+params_words (suc (suc (suc (suc (suc (suc (suc (suc (suc (suc zero)))))))))) = tt
+params_words (suc (suc (suc (suc (suc (suc (suc (suc (suc (suc (suc zero))))))))))) = tt
+params_words (suc (suc (suc (suc (suc (suc (suc (suc (suc (suc (suc (suc zero)))))))))))) = tt
+params_words (suc (suc (suc (suc (suc (suc (suc (suc (suc (suc (suc (suc (suc zero))))))))))))) = tt
+params_words (suc (suc (suc (suc (suc (suc (suc (suc (suc (suc (suc (suc (suc (suc v)))))))))))))) = omega arith
+
+pub blank_words : (start : ℕ) → SpellsWords (blank start)
+blank_words start = record { lines = tt; outs = params_words }

@@ -4,6 +4,7 @@ ghost use Rattle.elf_read.specs.Elf.{IsGuest, is_exec};
 ghost use Rattle.block_cut.specs.declared.ends.End.TheVariants as ends;
 ghost use Rattle.block_cut.specs.Blocks.{EachHasOneBlock, block_of};
 ghost use Rattle.ssa_form.specs.Checked.{checked};
+ghost use Rattle.ssa_form.specs.Same.{SpellsWords};
 ghost use Rattle.lift_flow.specs.LiftedBlock.{blank, lifted_all, lift_of};
 
 use block_cut::{End, MAX_INSTRUCTIONS, cut, instruction_at, one_block};
@@ -14,7 +15,8 @@ use std::alloc::{AllocError, Global};
 
 /// A block without lines, which goes on at its start. It takes no memory.
 fn blank(alloc: Global, start: u32) -> Block
-    ensures { result ≡ blank start }
+    ensures lines { result ≡ blank start }
+    ensures words { SpellsWords result }
 {
     Block {
         start,
@@ -54,9 +56,11 @@ fn lift_all(
     requires few { count ≤ MAX_INSTRUCTIONS }
     requires none { length block.old.lines ≡ 0 }
     requires whole { checked block.old ≡ true }
+    requires words { SpellsWords block.old }
     ensures lines { OnOk result (block.new ≡ lifted_all (block_of exe.now start).insts block.old) }
     ensures few { length block.new.lines ≤ 2048 }
     ensures whole { checked block.new ≡ true }
+    ensures words { SpellsWords block.new }
 {
     let mut at = start;
     for done in 0..count {
@@ -77,6 +81,7 @@ fn native(alloc: Global, exe: &Exe, start: u32) -> Block
     ensures lines { result ≡ lift_of exe.now start }
     ensures few { length result.lines ≤ 2048 }
     ensures whole { checked result ≡ true }
+    ensures words { SpellsWords result }
 {
     match instruction_at(exe, start) {
         Some(here) => Block {
@@ -90,7 +95,7 @@ fn native(alloc: Global, exe: &Exe, start: u32) -> Block
 /// The block of a start, which is an address in an executable segment, as lines: those of its instructions,
 /// one after another, from outs that are the parameters. It goes on where its transfer leads, or at the
 /// address behind it where it has none, also where nothing stands there. A native instruction has no lines,
-/// and the exit `Island`. The block is checked, and has at most 2048 lines.
+/// and the exit `Island`. The block is checked, has at most 2048 lines, and spells out numbers of 32 bits.
 ///
 /// An error comes where memory is short.
 pub fn lift_block(alloc: Global, exe: &Exe, start: u32) -> Result<Block, AllocError>
@@ -99,6 +104,7 @@ pub fn lift_block(alloc: Global, exe: &Exe, start: u32) -> Result<Block, AllocEr
     ensures lines { IfOk result (λ b. b ≡ lift_of exe.now start) }
     ensures few { IfOk result (λ b. length b.lines ≤ 2048) }
     ensures whole { IfOk result (λ b. checked b ≡ true) }
+    ensures words { IfOk result SpellsWords }
 {
     one_block();
     let cut = cut(exe, start);

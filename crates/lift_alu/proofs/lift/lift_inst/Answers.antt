@@ -6,6 +6,8 @@ use Rattle.lift_alu.specs.Lifted.{lifted}
 use Rattle.lift_alu.proofs.Closed.{lifted_made}
 use Rattle.lift_alu.proofs.Costs.{few_lines}
 use Rattle.lift_alu.proofs.Kept.{lifted_checked}
+use Rattle.lift_alu.proofs.Words.{lifted_words}
+use Rattle.ssa_form.specs.Same.{SpellsWords}
 use Rattle.lift_alu.proofs.lift.lift_inst.Goals as goal
 
 pub returns : goal.returns
@@ -21,4 +23,5 @@ returns c =
       lines = same;
       few = λ h. subst (λ (b : Block). length b.lines ≤ length old.lines + 32) (sym same) (few_lines i c.args.at c.args.len old h);
       whole = λ h. subst (λ (b : Block). checked b ≡ true) (sym same) (lifted_checked i c.args.at c.args.len old h);
+      words = λ h w. subst SpellsWords (sym same) (lifted_words i c.args.at c.args.len old h w);
     }

@@ -21,4 +21,5 @@ loop-done-preserved c =
       stand = left.stand;
       few = omega arith;
       whole = c.lift_inst.ensures.whole c.loop-done.invariant.whole;
+      words = c.lift_inst.ensures.words c.in-Some.ensures.valid c.loop-done.invariant.words;
     }

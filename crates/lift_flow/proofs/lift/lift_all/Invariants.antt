@@ -1,6 +1,7 @@
 use Rattle.std.proofs.Common.{◌≡◌, ◌≤◌, ◌*◌, true, length, drop}
 use Rattle.block_cut.specs.Blocks.{StandFrom, block_of}
 use Rattle.ssa_form.specs.Checked.{checked}
+use Rattle.ssa_form.specs.Same.{SpellsWords}
 use Rattle.lift_flow.specs.LiftedBlock.{lifted_all}
 use Rattle.lift_flow.proofs.lift.lift_all.Given as goal
 
@@ -11,4 +12,5 @@ invariant-loop-done l = record {
   stand : StandFrom l.exe l.at (drop l.done (block_of l.exe l.start).insts);
   few : length l.block.lines ≤ 32 * l.done;
   whole : checked l.block ≡ true;
+  words : SpellsWords l.block;
 }

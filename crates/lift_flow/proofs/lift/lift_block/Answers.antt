@@ -18,8 +18,9 @@ lift_all-requires c =
       one = c.one_block.ensures;
       count = count;
       few = omega arith;
-      none = ap (λ (b : Block). length b.lines) c.blank-block.ensures;
-      whole = ap checked c.blank-block.ensures;
+      none = ap (λ (b : Block). length b.lines) c.blank-block.ensures.lines;
+      whole = ap checked c.blank-block.ensures.lines;
+      words = c.blank-block.ensures.words;
     }
 
 pub returns-in_ok-lift_all-in_default : goal.returns-in_ok-lift_all-in_default
@@ -27,7 +28,8 @@ returns-in_ok-lift_all-in_default c =
     let plain : (block_of c.args.exe.now c.args.start).end ≢ Island = λ e. c.in_default.not-Island (ap (λ (x : Cut). x.end) c.cut-cut.ensures.block ∙ e) in
     record {
       lines = plain_is c.args.exe.now c.args.start c.lift_all.new.block plain
-          (c.in_ok-lift_all-in_default.ensures.lines ∙ ap (λ (b : Block). lifted_all (block_of c.args.exe.now c.args.start).insts b) c.blank-block.ensures);
+          (c.in_ok-lift_all-in_default.ensures.lines ∙ ap (λ (b : Block). lifted_all (block_of c.args.exe.now c.args.start).insts b) c.blank-block.ensures.lines);
       few = c.lift_all.ensures.few;
       whole = c.lift_all.ensures.whole;
+      words = c.lift_all.ensures.words;
     }

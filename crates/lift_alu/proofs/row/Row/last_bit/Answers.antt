@@ -14,6 +14,6 @@ returns-clause-made c =
     let moved = made c.bin-moved.new.self c.bin-moved.result in
     let low = made c.with-low.new.self c.with-low.result in
     let shifted = both_made c.args.op (Got 5) y r whole places moved c.same-whole.ensures.made c.value-places.ensures.made c.bin-moved.ensures.made in
-    name_made 8 (Op And (Op c.args.op (Got 5) y) (Lit 1)) r (rowed c.call.new.self) low
+    name_made 8 (Op And (Op c.args.op (Got 5) y) (Lit 1)) r (rowed c.assign.new.self) low
     (with_made And (Op c.args.op (Got 5) y) (atom.Lit 1) r moved low shifted c.with-low.ensures.made)
-    c.call.ensures.made
+    c.assign.ensures.made

@@ -19,6 +19,6 @@ returns-clause-made c =
     let sign = made c.with-sign.new.self c.with-sign.result in
     let shared = both_made And x y r one other both c.value-one.ensures.made c.value-other.ensures.made c.bin-both.ensures.made in
     let shifted = with_made Shr (Op And x y) (atom.Lit c.top.result) r both sign shared c.with-sign.ensures.made in
-    out_made InOf (top c.args.w (Op And x y)) r (rowed c.hold.new.self) sign
+    out_made InOf (top c.args.w (Op And x y)) r (rowed c.set_out.new.self) sign
     (shifted ∙ ap (λ (n : ℕ). made_of (Op Shr (Op And x y) (Lit n)) r) c.top.ensures)
-    c.hold.ensures.made
+    c.set_out.ensures.made

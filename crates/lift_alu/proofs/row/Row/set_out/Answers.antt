@@ -3,7 +3,7 @@ use Rattle.ssa_form.specs.declared.form.Val.{Val}
 use Rattle.lift_alu.specs.Steps.{Regs, Rowed}
 use Rattle.lift_alu.specs.Making.{rowed}
 use Rattle.lift_alu.proofs.Outs.{spot_written}
-use Rattle.lift_alu.proofs.row.Row.hold.Goals as goal
+use Rattle.lift_alu.proofs.row.Row.set_out.Goals as goal
 
 pub returns-then-at-lt-REGISTERS-clause-made : goal.returns-then-at-lt-REGISTERS-clause-made
 unfolding rowed

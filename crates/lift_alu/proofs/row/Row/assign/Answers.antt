@@ -3,7 +3,7 @@ use Rattle.ssa_form.specs.declared.form.Val.{Val}
 use Rattle.lift_alu.specs.Steps.{Rowed}
 use Rattle.lift_alu.specs.Making.{rowed}
 use Rattle.lift_alu.proofs.Making.{vals_put}
-use Rattle.lift_alu.proofs.row.Row.call.Goals as goal
+use Rattle.lift_alu.proofs.row.Row.assign.Goals as goal
 
 pub returns-clause-made : goal.returns-clause-made
 unfolding rowed

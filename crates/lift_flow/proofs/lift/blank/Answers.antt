@@ -1,0 +1,5 @@
+use Rattle.lift_flow.proofs.Lifting.{blank_words}
+use Rattle.lift_flow.proofs.lift.blank.Goals as goal
+
+pub returns-clause-words : goal.returns-clause-words
+returns-clause-words c = blank_words c.args.start
