@@ -43,10 +43,7 @@ IsFitting (Merges target original names) = length names ≤ TRACE_LIMIT
 IsFitting (Shows original names) = length names ≤ TRACE_LIMIT
 IsFitting _ = Unit {0}
 
--- the position of the first wrong word, where one that is wrong stands behind the words that were read
-abbrev pub wrong_or_next : ℕ → Result Asked ℕ → ℕ
-wrong_or_next next (Ok asked) = next
-wrong_or_next next (Err at) = min at next
-
-abbrev pub wrong_in : List (List ℕ) → ℕ
-wrong_in words = wrong_or_next (length words) (asked_by words)
+-- the position of the first wrong word, where one at this position is wrong whatever stands before it
+abbrev pub first_wrong : Result Asked ℕ → ℕ → ℕ
+first_wrong (Ok asked) position = position
+first_wrong (Err at) position = min at position

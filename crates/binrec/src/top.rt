@@ -86,7 +86,8 @@ fn answer<F: Shelf, I: Source, O: Sink, R: Sink>(
             );
             tell_end(report, end)
         }
-        Command::Session { .. } | Command::Demo { .. } => tell_usage(report, 0),
+        Command::Session { .. } => tell_usage(report, 0),
+        Command::Demo { .. } => tell_usage(report, 0),
     }
 }
 
@@ -95,7 +96,7 @@ fn answer<F: Shelf, I: Source, O: Sink, R: Sink>(
 /// | Words | What is done | Line with status 0 |
 /// |---|---|---|
 /// | `build N E` | stores as N a file that does what E does | `built 0 5 L`, L the length of N in bytes |
-/// | `trace [--steps K] T E WORD..` | runs E for at most K steps, and stores the edges of the steps as T | `exit S steps M undefined U edges P` |
+/// | `trace [--steps K] T E WORD..` | runs E and stores the edges of its steps as T | `exit S steps M undefined U edges P` |
 /// | `run [--steps K] E WORD..` | runs E for at most K steps | `exit S steps M undefined U` |
 /// | `merge T E T..` | stores the union of the later traces of E as the first T | `merged P` |
 /// | `show E T..` | prints the listing of the blocks that the traces of E have seen | `shown B`, B the number of blocks |
@@ -105,18 +106,20 @@ fn answer<F: Shelf, I: Source, O: Sink, R: Sink>(
 /// `report`; `build`, `merge` and `show` take nothing, and of these `show` alone prints. S is the guest's status, M the number of its
 /// steps, U how many of them read a flag that was not defined, and P a number of edges.
 ///
-/// The last call gives the report line:
+/// The last call gives the report line. The statuses, and the lines that come with them:
 ///
-/// | Status | When | Line |
-/// |---|---|---|
-/// | 0 | all was done; the guest exited | as above |
-/// | 1 | the words are no command | `usage W`, W the position of the first wrong word, from 0, or the number of words where one is missing |
-/// | 2 | a file is refused, the first in the order of the words | `refused word W K P`, with the position of its word, the refusal's number and its place in the file |
-/// | 3 | a call of an object failed, or a name is absent, or the report line could not be given | `outside shelf`, `outside input`, `outside output` or `outside report` |
-/// | 4 | want of memory | `memory` |
-/// | 5 | the guest faulted | `fault KIND ADDRESS` and the counts of status 0 |
-/// | 6 | after K steps the guest still ran | `budget` and the counts of status 0 |
-/// | 7 | a limit is passed | `limit file 16777216` (268435456 for `run`), `limit edges 16777216` for all traces, `limit union 2000000` for what is stored as a trace, `limit blocks 65536` for `show` |
+/// - 0: all was done; the guest exited. The line is as above.
+/// - 1: the words are no command. `usage W`, W the position of the first wrong word, from 0, or the number of words where one is
+///   missing.
+/// - 2: a file is refused, the first in the order of the words. `refused word W K P`, with the position of its word, the
+///   refusal's number and its place in the file.
+/// - 3: a call of an object failed, or a name is absent, or the report line could not be given. `outside shelf`,
+///   `outside input`, `outside output` or `outside report`.
+/// - 4: memory was wanting. `memory`.
+/// - 5: the guest faulted. `fault KIND ADDRESS` and the counts of status 0.
+/// - 6: after K steps the guest still ran. `budget` and the counts of status 0.
+/// - 7: a limit is passed. `limit file 16777216` (268435456 for `run`), `limit edges 16777216` for all traces, `limit union 2000000`
+///   for what is stored as a trace, `limit blocks 65536` for `show`.
 ///
 /// The first cause in the order of the work decides: E comes before the traces, each file is fetched,
 /// measured, read and counted before the next, and a fault of an object stands at the call that met it. But

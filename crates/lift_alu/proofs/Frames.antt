@@ -22,7 +22,7 @@ use Rattle.ssa_form.specs.Value.{select_value}
 use Rattle.lift_alu.specs.Steps.{Spot, Expr, Step, Name, Fetch, Put, Write, put, Run, with_reg, named, with_mem, worth, After}
 use Rattle.lift_alu.specs.Operands.{write_reg, place, read_operand, write_operand, source_place, read_source}
 use Rattle.lift_alu.specs.Lifted.{Leaving, Onward, Either, Away, leaving_of, row_of}
-use Rattle.ssa_form.specs.Same.{HoldsBytes}
+use Rattle.lift_alu.proofs.Bytes.{HoldsBytes}
 use Rattle.lift_alu.proofs.OperandLaws.{AreSmall, read_reg_worth, with_gpr, write_reg_sets, reg_with_small, reg_fits, load_fits, address_worth, below_of}
 
 -- the steps are allowed from s, and lead to where P holds. A record, so that a frame shows the steps that follow

@@ -16,7 +16,7 @@ use Rattle.ia_inst.specs.Meaning.{reg_value, reg_with, base_of, index_of, addres
 use Rattle.ssa_form.specs.declared.form.BinOp.TheVariants.{Add, And, Or, Shl}
 use Rattle.lift_alu.specs.Steps.{Gpr, Expr, Cur, Lit, Op, Put, Run, worth, AfterStep}
 use Rattle.lift_alu.specs.Operands.{masked, read_reg, write_reg, scaled, plus_disp, address_parts, address_expr}
-use Rattle.ssa_form.specs.Same.{AllSmall, HoldsBytes}
+use Rattle.lift_alu.proofs.Bytes.{AllSmall, HoldsBytes}
 use Rattle.lift_alu.proofs.Parts.{and_ff, and_ffff, write_low, write_word, write_high}
 
 -- registers below 2 ^ 32

@@ -5,7 +5,7 @@ use Rattle.std.proofs.lemmas.Bool.{eqb-true}
 use Rattle.std.proofs.Math.ListN.{length-set}
 use Rattle.br_word.specs.Words.{bit}
 use Rattle.br_word.specs.Memory.{Region}
-use Rattle.br_word.specs.State.{Processor, Flag, CF, PF, ZF, SF, OF, flag_of}
+use Rattle.br_word.specs.State.{Processor, AreRegs, Flag, CF, PF, ZF, SF, OF, flag_of}
 use Rattle.ia_inst.specs.declared.inst.Inst.{Inst}
 use Rattle.ia_inst.specs.Act.{NextEip}
 use Rattle.ia_inst.specs.Meaning.{wrap}
@@ -14,13 +14,13 @@ use Rattle.ssa_form.specs.declared.form.Val.TheVariants.{Param, Line as Of, Num}
 use Rattle.ssa_form.specs.declared.form.Line.{Line}
 use Rattle.ssa_form.specs.Value.{Env, value, fold, numbered, outs_of, exit_of, select_value}
 use Rattle.ssa_form.specs.Agree.{AgreesOn, AreBits, every, number}
-use Rattle.ia_inst.specs.Fits.{AreRegs}
 use Rattle.ssa_form.specs.declared.form.Block.{Block}
 use Rattle.ssa_form.specs.Checked.{val_checked, vals_checked, lines_checked, checked}
 use Rattle.lift_alu.specs.Steps.{Spot, Gpr, InCf, InPf, InZf, InSf, InOf, InDf, Regs, Expr, Cur, Got, Lit, Op, Fn, Sel, Step, Name, Fetch, Put, Write, with_spot, Run, Draft, emit, Rowed, row_step, row_steps, unnamed}
 use Rattle.lift_alu.specs.Lifted.{Leaving, Onward, Either, Away, leaving_of, row_of, exit_by, outs_from, draft_of, lifted}
 use Rattle.lift_alu.specs.Means.{LinesMean}
-use Rattle.ssa_form.specs.Same.{HoldsBytes}
+use Rattle.br_word.specs.Memory.{HoldBytes}
+use Rattle.lift_alu.proofs.Bytes.{small_memory}
 use Rattle.lift_alu.proofs.Grown.{not_grown, Below, Holds, num_holds}
 use Rattle.lift_alu.proofs.Emit.{AllHold, RegsHold, all_get, Stands, steps_hold}
 use Rattle.lift_alu.proofs.OperandLaws.{and_left, and_right, below_of}
@@ -165,10 +165,10 @@ exits (Onward to) vals e n s h = refl
 exits (Either taken next) vals e n s h = ap (λ t. select_value t taken next) (h 9).reads
 exits Away vals e n s h = (h 9).reads
 
-given : (u : Processor) (p : ℕ → ℕ) (m : List Region) → AreRegs u.regs → AgreesOn every u p → AreBits p → HoldsBytes m → Given u p m
+given : (u : Processor) (p : ℕ → ℕ) (m : List Region) → AreRegs u.regs → AgreesOn every u p → AreBits p → HoldBytes m → Given u p m
 given u p m s a b h =
     let flag : (f : Flag) → IsFlag (flag_of f u.marks) (flag_of f u.flags) (p (number f)) = λ f. record { agrees = a.flags f refl; small = b.flags f } in
-    record { small = record { small = s.small }; bytes = h; cf = flag CF; pf = flag PF; zf = flag ZF; sf = flag SF; of = flag OF; df = a.df refl }
+    record { small = record { small = s.small }; bytes = small_memory m h; cf = flag CF; pf = flag PF; zf = flag ZF; sf = flag SF; of = flag OF; df = a.df refl }
 
 pub take_count : (j l : ℕ) (vs : List Val) → length vs ≡ j + l → length (take j vs) ≡ j
 take_count zero l vs q = refl

@@ -1,7 +1,7 @@
 -- The lines of an instruction do what its step does.
 use Rattle.std.specs.Prelude.{IsTrue, true, ◌+◌, ◌≤◌, ◌≡◌, ℕ, List, ◌++◌, length}
-use Rattle.br_word.specs.Memory.{Region}
-use Rattle.br_word.specs.State.{Processor}
+use Rattle.br_word.specs.Memory.{Region, HoldBytes}
+use Rattle.br_word.specs.State.{Processor, AreRegs}
 use Rattle.ia_inst.specs.declared.inst.Inst.{Inst}
 use Rattle.ia_inst.specs.declared.inst.Kind.{Kind}
 use Rattle.ia_inst.specs.declared.inst.Kind.TheVariants.{Plain, Island, Transfer}
@@ -12,8 +12,7 @@ use Rattle.ia_inst.specs.Step.{AllMarked, next_eip}
 use Rattle.ssa_form.specs.declared.form.Line.{Line}
 use Rattle.ssa_form.specs.Value.{Env, fold, AllAllowed, numbered, outs_of, exit_of}
 use Rattle.ssa_form.specs.Agree.{AgreesOn, AreBits, every}
-use Rattle.ia_inst.specs.Fits.{AreRegs}
-use Rattle.ssa_form.specs.Same.{HoldsBytes, SpellsWords}
+use Rattle.ssa_form.specs.Same.{SpellsWords}
 use Rattle.ssa_form.specs.Checked.{checked}
 use Rattle.ia_inst.specs.Canonical.{valid_of}
 use Rattle.ssa_form.specs.declared.form.Block.{Block}
@@ -40,7 +39,7 @@ pub record Reaches (b c : Block) (e : Env) (at : ℕ) (v : Processor) (ms : List
 abbrev pub LinesMean : Inst → (at n : ℕ) → Block → Type 0
 LinesMean i at n b =
     (e : Env) (u v : Processor) (ms : List Region) (to : NextEip) →
-    AreRegs u.regs → HoldsBytes e.mem →
+    AreRegs u.regs → HoldBytes e.mem →
     AgreesOn every u (outs_of b.outs e) → AreBits (outs_of b.outs e) →
     AllMarked u.marks (flags_read i) →
     perform (meaning i n u.regs at u.df) 0 u e.mem ≡ Next v ms to →

@@ -4,7 +4,7 @@ use Rattle.std.specs.Prelude.{IsTrue, if◌then◌else◌}
 use Rattle.std.proofs.lemmas.List.Sums.{sum_by-cons}
 use Rattle.std.proofs.lemmas.List.{append-nil}
 use Rattle.std.proofs.lemmas.List.Elements.{All-head, All-tail, All-drop}
-use Rattle.br_word.specs.Memory.{Region, Runs, bytes_at, covers, allows}
+use Rattle.br_word.specs.Memory.{Region, Runs, bytes_at, covers, allows, AreBytes, HoldBytes}
 use Rattle.br_word.specs.Words.{bit}
 use Rattle.br_word.specs.State.{Processor, State, Running, Flag, CF, PF, ZF, SF, OF, flag_of}
 use Rattle.elf_read.specs.declared.exe.Exe.{Exe}
@@ -15,7 +15,7 @@ use Rattle.ia_inst.specs.declared.inst.Kind.TheVariants as kinds
 use Rattle.ia_inst.specs.Canonical.{valid_of}
 use Rattle.ia_inst.specs.Instructions.{decode_of}
 use Rattle.ia_inst.specs.Kinds.{kind_of, flags_read}
-use Rattle.ia_inst.specs.Fits.{AreRegs, AsksExactly}
+use Rattle.ia_inst.specs.Fits.{AsksExactly}
 use Rattle.ia_inst.specs.Act.{NextEip, Completion, Next, Denied, Divided, Called, perform}
 use Rattle.ia_inst.specs.Meaning.{wrap, meaning}
 use Rattle.ia_inst.specs.Step.{Found, There, found, found_from, found_in, act_of, next_eip, result_of, result_at, step_result, settled, unless_stopped, step, NoFault, AllMarked, asked_at, IsWellDefined}
@@ -24,9 +24,9 @@ use Rattle.block_cut.specs.declared.ends.End.{End}
 use Rattle.block_cut.specs.declared.ends.End.TheVariants.{Transfer, Island, BeforeIsland, Unreadable, Full}
 use Rattle.block_cut.specs.Places.{Placed, found_at}
 use Rattle.block_cut.specs.Blocks.{StandFrom, ArePlain, EndWith, EndsSo, IsBlock, block_of, size_of, EachHasOneBlock}
-use Rattle.run_model.specs.Run.{AreBytes, observed, run, WellDefined}
+use Rattle.run_model.specs.Run.{observed, run, WellDefined}
 use Rattle.sim_laws.specs.ByKind.{IsQuiet}
-use Rattle.run_model.specs.Sound.{HoldBytes, IsSound}
+use Rattle.run_model.specs.Sound.{IsSound}
 use Rattle.sim_laws.specs.InCode.{IsStateOf}
 use Rattle.sim_laws.specs.Through.{Comes, RunsThrough}
 use Rattle.ssa_form.specs.declared.form.Line.{Line}
@@ -34,7 +34,7 @@ use Rattle.ssa_form.specs.declared.form.Block.{Block}
 use Rattle.ssa_form.specs.Value.{Env, fold, AllAllowed, numbered, outs_of, exit_of}
 use Rattle.ssa_form.specs.Agree.{AgreesOn, AreBits, every, number}
 use Rattle.ssa_form.specs.Checked.{checked}
-use Rattle.ssa_form.specs.Same.{AllSmall, HoldsBytes, start_env, end_env, rows}
+use Rattle.ssa_form.specs.Same.{start_env, end_env, rows}
 use Rattle.lift_alu.specs.Lifted.{lifted}
 use Rattle.lift_alu.specs.Means.{IsLifted, Reaches, LinesMean, EachMeans, EachStaysChecked}
 use Rattle.lift_flow.specs.LiftedBlock.{params, blank, lifted_all, lifted_to, lift_of}
@@ -48,14 +48,6 @@ IsByte b = b < 256
 
 abbrev OfBytes : Region → Type 0
 OfBytes r = AreBytes r.bytes
-
-small_bytes : (bs : List ℕ) → AreBytes bs → AllSmall bs
-small_bytes [] h = tt
-small_bytes (b ∷ bs) h = (All-head IsByte b bs h, small_bytes bs (All-tail IsByte b bs h))
-
-small_memory : (rs : List Region) → HoldBytes rs → HoldsBytes rs
-small_memory [] h = tt
-small_memory (r ∷ rs) h = (small_bytes r.bytes (All-head OfBytes r rs h), small_memory rs (All-tail OfBytes r rs h))
 
 -- what is found in memory of bytes are bytes
 bytes_there : (at n : ℕ) (rs : List Region) (bs : List ℕ) → HoldBytes rs → bytes_at Runs at n rs ≡ Some bs → AreBytes bs
@@ -199,7 +191,7 @@ module _ (asks : AsksExactly) (read : ReadIsValid) (mean : EachMeans) (stays : E
       let acts : perform (meaning p.inst p.size s.cpu.regs p.at s.cpu.df) 0 s.cpu e.mem ≡ Next next.cpu next.mem next.to =
       ap (λ (m : List Region). perform (meaning p.inst p.size s.cpu.regs p.at s.cpu.df) 0 s.cpu m) g.memory
       ∙ ap (λ (x : ℕ). perform (meaning p.inst p.size s.cpu.regs x s.cpu.df) 0 s.cpu s.regions) a ∙ next.acts in
-      let holds : HoldsBytes e.mem = subst HoldsBytes (sym g.memory) (small_memory s.regions h.sound.bytes) in
+      let holds : HoldBytes e.mem = subst HoldBytes (sym g.memory) h.sound.bytes in
       let reached : Reaches b (lifted p.inst p.at p.size b) e p.at next.cpu next.mem next.to =
       mean p.inst p.at p.size b v k g.whole e s.cpu next.cpu next.mem next.to h.sound.regs holds g.agrees g.bits (marked s p.inst p.size h r f w) acts in
       let c = lifted p.inst p.at p.size b in

@@ -53,8 +53,10 @@ done (m ∷ ms) s = done ms (put s m.to (held s m.from))
 -- the moves one after another have the effect of the given ones at once
 pub record ActAtOnce (moves list : List PlaceMove) : Type 0 where
   pub moved : (s : Cells) → All (λ m. done list s m.to ≡ held s m.from) moves
-  pub kept : (s : Cells) (q : Place) → All (λ m. same_place m.to q ≡ false) moves → same_place spare q ≡ false → done list s q ≡ s q
+  pub kept : (s : Cells) (q : Place) → All (λ m. same_place m.to q ≡ false) moves → same_place spare q ≡ false
+      → done list s q ≡ s q
 
 -- distinct destinations, and none of them the spare
 abbrev pub AreApart : List PlaceMove → Type 0
-AreApart moves = (i j : ℕ) (d e : PlaceMove) → i < j → j < length moves → same_place (slice_index_or moves i d).to (slice_index_or moves j e).to ≡ false
+AreApart moves = (i j : ℕ) (d e : PlaceMove) → i < j → j < length moves
+    → same_place (slice_index_or moves i d).to (slice_index_or moves j e).to ≡ false

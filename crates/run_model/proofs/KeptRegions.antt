@@ -5,9 +5,8 @@ use Rattle.std.specs.Int.{byte_at, bytes_low_first}
 use Rattle.std.proofs.lemmas.Nat.{mod_below}
 use Rattle.std.proofs.lemmas.Bool.{and_parts, eqb-true}
 use Rattle.std.proofs.lemmas.List.Elements.{All-nil, All-cons, All-head, All-tail, All-append, All-weaker, All-take, All-drop, All-replicate}
-use Rattle.br_word.specs.Memory.{Region, Use, Reads, Runs, allows, covers, bytes_at, put_over, written, number_of, bytes_of, zeros, load, resized}
-use Rattle.run_model.specs.Run.{AreBytes}
-use Rattle.run_model.specs.Sound.{HoldBytes, IsApart}
+use Rattle.br_word.specs.Memory.{Region, Use, Reads, Runs, allows, covers, bytes_at, put_over, written, number_of, bytes_of, zeros, load, resized, AreBytes, HoldBytes}
+use Rattle.run_model.specs.Sound.{IsApart}
 
 -- ---- bytes
 

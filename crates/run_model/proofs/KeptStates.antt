@@ -4,8 +4,8 @@ use Rattle.std.specs.Prelude.{nat_eq, nat_lt, nat_le, if◌then◌else◌, IsTru
 use Rattle.std.proofs.lemmas.Bool.Decides.{nat_tests}
 use Rattle.std.proofs.lemmas.Nat.{mod_below}
 use Rattle.std.proofs.lemmas.List.{length-take}
-use Rattle.br_word.specs.Memory.{Region, Runs, bytes_at, written, bytes_of, load, store, resized}
-use Rattle.br_word.specs.State.{Processor, State, RunState, Running, Exited, Faulted, flag_of}
+use Rattle.br_word.specs.Memory.{Region, Runs, bytes_at, written, bytes_of, load, store, resized, AreBytes, HoldBytes}
+use Rattle.br_word.specs.State.{Processor, State, RunState, Running, Exited, Faulted, flag_of, AreRegs}
 use Rattle.br_word.specs.declared.types.Width.TheVariants.{B32}
 use Rattle.ia_inst.specs.declared.inst.Inst.{Inst}
 use Rattle.ia_inst.specs.declared.inst.Inst.TheVariants.{Mov}
@@ -17,9 +17,9 @@ use Rattle.ia_inst.specs.Canonical.{valid_of}
 use Rattle.ia_inst.specs.Instructions.{decode_of}
 use Rattle.ia_inst.specs.System.{answers, buffer, filled, system, StepResult, On, Bad, or_bad}
 use Rattle.ia_inst.specs.Step.{Found, NoCode, NoInst, There, found_from, found_in, found, next_eip, act_of, result_of, result_at, step_result, settled, unless_stopped, step}
-use Rattle.run_model.specs.Run.{AreBytes, first_choice, run}
-use Rattle.ia_inst.specs.Fits.{AreRegs, IsAddress, Fits, EachFits}
-use Rattle.run_model.specs.Sound.{HoldBytes, IsApart, IsSound, StaysSound, ActsKeep}
+use Rattle.run_model.specs.Run.{first_choice, run}
+use Rattle.ia_inst.specs.Fits.{IsAddress, Fits, EachFits}
+use Rattle.run_model.specs.Sound.{IsApart, IsSound, StaysSound, ActsKeep}
 use Rattle.run_model.proofs.KeptRegions.{IsRegion, together, their_bytes, their_code, word_bytes, first_bytes, last_bytes, Kept, kept_all, kept_on, bytes_read, load_small, written_bytes, written_kept, resized_kept}
 
 -- ---- an act

@@ -1,7 +1,7 @@
 -- A file of bytes begins soundly.
 use Rattle.std.proofs.Common.{◌≡◌, ℕ, ◌+◌, ◌-◌, ◌*◌, ◌/◌, ◌^◌, ◌<◌, ◌≤◌, Bool, true, false, ◌&&◌, List, [], ◌∷◌, ◌++◌, length, map, codes, All, Result, Ok, Err, Option, Some, None, refl, subst, arith}
 use Rattle.std.proofs.lemmas.List.Elements.{All-nil, All-cons, All-head, All-tail, All-from_recursion}
-use Rattle.br_word.specs.Memory.{bytes_of, zeros}
+use Rattle.br_word.specs.Memory.{bytes_of, zeros, AreBytes}
 use Rattle.elf_read.specs.declared.exe.Segment.{Segment}
 use Rattle.elf_read.specs.declared.exe.Exe.{Exe}
 use Rattle.elf_read.specs.declared.exe.Reach.{Reach}
@@ -12,10 +12,10 @@ use Rattle.elf_read.proofs.Accepted.{accepted_exe, entry_bound}
 use Rattle.elf_read.specs.Regions.{region_of, stack_with, stack_region, heap_region, opening_regions}
 use Rattle.run_model.proofs.SegmentEnds.{below_end, end_of_tail, end_high}
 use Rattle.run_model.specs.Opening.{arguments, texts, first_text, text_places, stack_pointer, stack_words, stack_top, opening, exe_or_none, opening_of}
-use Rattle.run_model.specs.Run.{AreBytes, AreOfBytes}
-use Rattle.ia_inst.specs.Fits.{AreRegs}
+use Rattle.run_model.specs.Run.{AreOfBytes}
 use Rattle.run_model.specs.Sound.{IsSound}
 use Rattle.run_model.proofs.KeptRegions.{IsRegion, their_bytes, their_code, IsByte, each_below, word_bytes, zero_bytes, both, first_bytes, last_bytes}
+use Rattle.br_word.specs.State.{AreRegs}
 
 -- ---- the stack
 

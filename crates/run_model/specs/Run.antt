@@ -3,6 +3,7 @@ use Rattle.std.specs.Prelude.{ℕ, zero, suc, ◌<◌, List, [], ◌∷◌, drop
 use Rattle.br_word.specs.State.{State, RunState}
 use Rattle.ia_inst.specs.Step.{step, IsWellDefined}
 use Rattle.run_model.specs.Opening.{opening_of}
+use Rattle.br_word.specs.Memory.{AreBytes}
 
 -- what is seen of a guest: the bytes on descriptors 1 and 2, the input that is left, and whether it goes on
 pub record Observation : Type 0 where
@@ -18,10 +19,6 @@ observed s = record { out = s.out; err = s.err; input = s.input; stop = s.stop }
 -- the bits of undefined flags come from a list of choices, one number a step, and are 0 past its end
 abbrev pub AreChoices : List ℕ → Type 0
 AreChoices choices = All (λ c. c < 32) choices
-
--- each is a byte
-abbrev pub AreBytes : List ℕ → Type 0
-AreBytes bytes = All (λ b. b < 256) bytes
 
 -- a file, its words and its input are of bytes
 pub record AreOfBytes (e : List ℕ) (ws : List (List ℕ)) (i : List ℕ) : Type 0 where

@@ -1,16 +1,12 @@
 -- States whose numbers are those of a machine, and that stay so.
 use Rattle.std.specs.Prelude.{◌≡◌, ◌≢◌, ℕ, ◌^◌, ◌<◌, true, false, List, All, Some}
-use Rattle.br_word.specs.Memory.{Region, load, store}
-use Rattle.br_word.specs.State.{Processor, State}
+use Rattle.br_word.specs.Memory.{Region, load, store, AreBytes, HoldBytes}
+use Rattle.br_word.specs.State.{Processor, State, AreRegs}
 use Rattle.ia_inst.specs.Act.{NextEip, Act, Next, perform}
-use Rattle.ia_inst.specs.Fits.{AreRegs, IsAddress, Fits}
+use Rattle.ia_inst.specs.Fits.{IsAddress, Fits}
 use Rattle.ia_inst.specs.Step.{found, step}
 use Rattle.run_model.specs.Opening.{opening_of}
-use Rattle.run_model.specs.Run.{AreBytes, AreOfBytes, run}
-
--- what memory holds are bytes
-abbrev pub HoldBytes : List Region → Type 0
-HoldBytes rs = All (λ r. AreBytes r.bytes) rs
+use Rattle.run_model.specs.Run.{AreOfBytes, run}
 
 -- where a region is executed it is not written, nor does it start where the heap does
 abbrev pub IsApart : ℕ → Region → Type 0

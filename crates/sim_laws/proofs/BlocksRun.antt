@@ -1,41 +1,36 @@
 -- A well-defined run goes through a block instruction by instruction.
-use Rattle.std.proofs.Common.{◌≡◌, ◌≢◌, ℕ, zero, suc, ◌+◌, ◌≤◌, Bool, true, false, ◌&&◌, List, [], ◌∷◌, ◌++◌, length, Contains, Some, None, refl, sym, ap, ◌∙◌, subst, arith, mod-eq_of_lt, ◌⊎◌, inl, inr, ⊎_elim}
-use Rattle.std.specs.Prelude.{option_to_list, if◌then◌else◌}
-use Rattle.std.specs.Bool.{then_some}
+use Rattle.std.proofs.Common.{◌≡◌, ◌≢◌, ℕ, zero, suc, ◌+◌, ◌≤◌, List, [], ◌∷◌, length, Some, refl, sym, ap, ◌∙◌, subst, arith, mod-eq_of_lt}
 use Rattle.std.proofs.lemmas.List.Sums.{sum_by-cons}
 use Rattle.br_word.specs.State.{State, Running}
 use Rattle.elf_read.specs.declared.exe.Exe.{Exe}
-use Rattle.elf_read.specs.Elf.{is_exec, IsGuest}
-use Rattle.elf_read.specs.Code.{code_at}
+use Rattle.elf_read.specs.Elf.{IsGuest}
 use Rattle.ia_inst.specs.declared.inst.Inst.{Inst}
 use Rattle.ia_inst.specs.declared.inst.Kind.{Kind}
 use Rattle.ia_inst.specs.declared.inst.Kind.TheVariants as kinds
 use Rattle.ia_inst.specs.Kinds.{kind_of}
-use Rattle.ia_inst.specs.Instructions.{decode_of}
 use Rattle.ia_inst.specs.Meaning.{wrap}
-use Rattle.ia_inst.specs.Step.{Found, NoCode, NoInst, There, found, found_from, result_at, step_result, settled, unless_stopped, step, NoFault, IsWellDefined}
+use Rattle.ia_inst.specs.Step.{There, result_at, step_result, settled, unless_stopped, step, NoFault, IsWellDefined}
 use Rattle.ia_inst.specs.System.{StepResult, On, Bad}
 use Rattle.block_cut.specs.declared.ends.End.{End}
 use Rattle.block_cut.specs.declared.ends.End.TheVariants.{Transfer, Island, BeforeIsland, Unreadable, Full}
 use Rattle.block_cut.specs.Places.{Placed, found_at, inst_found}
-use Rattle.block_cut.specs.Blocks.{BasicBlock, size_of, last_of, StandFrom, ArePlain, EndWith, EndsSo, IsBlock, kind_found, block_of, is_followed, next_of, follow_of, EachHasOneBlock}
+use Rattle.block_cut.specs.Blocks.{size_of, StandFrom, ArePlain, EndWith, EndsSo, IsBlock, block_of, EachHasOneBlock}
 use Rattle.block_cut.proofs.Standing.{inside}
-use Rattle.run_model.specs.Edges.{Edge, is_transfer_kind, edge_by, edge_at, edge_of, edges_from}
 use Rattle.run_model.specs.Run.{Observation, run, WellDefined}
 use Rattle.sim_laws.specs.ByKind.{IsQuiet, GoesBy, EachGoesByKind}
 use Rattle.sim_laws.specs.InCode.{IsStateOf, StepsInCode}
 use Rattle.sim_laws.specs.Through.{Comes}
 
 -- a step that does not fault
-record Went (i : Inst) (n : ℕ) (s : State) (c : ℕ) : Type 0 where
+pub record Went (i : Inst) (n : ℕ) (s : State) (c : ℕ) : Type 0 where
   pub way : step_result s c ≡ On (step s c)
   pub goes : GoesBy (kind_of i) i n s (step s c)
 
 module _ (by_kind : EachGoesByKind) (steps : StepsInCode) (one : EachHasOneBlock) (exe : Exe) (guest : IsGuest exe) where
-  block_is : (start : ℕ) → IsBlock exe start (block_of exe start)
+  pub block_is : (start : ℕ) → IsBlock exe start (block_of exe start)
   block_is start = (one exe start (block_of exe start)).1 refl
 
-  went : (s : State) (i : Inst) (n c : ℕ) → IsStateOf exe s → s.stop ≡ Running → found_at exe s.eip ≡ There i n → NoFault (step_result s c) → Went i n s c
+  pub went : (s : State) (i : Inst) (n c : ℕ) → IsStateOf exe s → s.stop ≡ Running → found_at exe s.eip ≡ There i n → NoFault (step_result s c) → Went i n s c
   unfolding step
   went s i n c h r f w = by_way (step_result s c) refl w
     where
@@ -49,18 +44,18 @@ module _ (by_kind : EachGoesByKind) (steps : StepsInCode) (one : EachHasOneBlock
   quiet_on : (s t u : State) → IsQuiet s t → IsQuiet t u → IsQuiet s u
   quiet_on s t u a b = record { seen = b.seen ∙ a.seen; brk = b.brk ∙ a.brk }
 
-  comes : (s : State) (c : ℕ) → IsStateOf exe s → s.stop ≡ Running → IsQuiet s (step s c) → Comes exe s (step s c)
+  pub comes : (s : State) (c : ℕ) → IsStateOf exe s → s.stop ≡ Running → IsQuiet s (step s c) → Comes exe s (step s c)
   comes s c h r q = record { of = steps exe s c h; running = ap (λ (o : Observation). o.stop) q.seen ∙ r; quiet = q }
 
-  comes_on : (s t u : State) → Comes exe s t → Comes exe t u → Comes exe s u
+  pub comes_on : (s t u : State) → Comes exe s t → Comes exe t u → Comes exe s u
   comes_on s t u a b = record { of = b.of; running = b.running; quiet = quiet_on s t u a.quiet b.quiet }
 
-  behind : (at : ℕ) (i : Inst) (n : ℕ) → found_at exe at ≡ There i n → wrap (at + n) ≡ at + n
+  pub behind : (at : ℕ) (i : Inst) (n : ℕ) → found_at exe at ≡ There i n → wrap (at + n) ≡ at + n
   behind at i n f =
       let l : at + n ≤ 0xA0000000 = inside exe at (Some (i, n)) guest (ap inst_found (sym f)) in
       mod-eq_of_lt (omega (arith, l))
 
-  plain_step : (s : State) (p : Placed) → IsStateOf exe s → s.stop ≡ Running → found_at exe s.eip ≡ There p.inst p.size → kind_of p.inst ≡ kinds.Plain → IsWellDefined s
+  pub plain_step : (s : State) (p : Placed) → IsStateOf exe s → s.stop ≡ Running → found_at exe s.eip ≡ There p.inst p.size → kind_of p.inst ≡ kinds.Plain → IsWellDefined s
       → Comes exe s (step s 0) × ((step s 0).eip ≡ s.eip + p.size)
   plain_step s p h r f k w =
       let g = went s p.inst p.size 0 h r f (w.no_fault r) in

@@ -1,8 +1,7 @@
 -- Edges that lead to code count, and lead to known exits.
-use Rattle.std.proofs.Common.{◌≡◌, ℕ, zero, suc, ◌==◌, Bool, true, false, ◌&&◌, ◌||◌, List, [], ◌∷◌, map, filter, Contains, IsTrue, Ok, refl, sym, ap, ◌∙◌, subst, arith}
-use Rattle.std.specs.Prelude.{option_to_list, if◌then◌else◌}
+use Rattle.std.proofs.Common.{◌≡◌, ℕ, zero, suc, ◌==◌, Bool, true, false, ◌&&◌, ◌||◌, [], ◌∷◌, IsTrue, refl, sym, ap, ◌∙◌, subst, arith}
 use Rattle.std.proofs.lemmas.Bool.Decides.{nat_tests}
-use Rattle.std.proofs.lemmas.List.Elements.{All-nil, All-cons, All-append, All-contains}
+use Rattle.std.proofs.lemmas.List.Elements.{All-nil, All-cons, All-append}
 use Rattle.br_word.specs.State.{State, RunState, Running, Exited, Faulted}
 use Rattle.elf_read.specs.declared.exe.Exe.{Exe}
 use Rattle.elf_read.specs.Elf.{is_exec}
@@ -12,12 +11,10 @@ use Rattle.ia_inst.specs.declared.inst.Kind.TheVariants.{Plain, Island, Transfer
 use Rattle.ia_inst.specs.Kinds.{kind_of}
 use Rattle.ia_inst.specs.Step.{Found, NoCode, NoInst, There, found, result_at, step_result, step}
 use Rattle.ia_inst.specs.System.{StepResult, On, Bad}
-use Rattle.block_cut.specs.declared.ends.End.TheVariants as ends
 use Rattle.block_cut.specs.Places.{found_at}
 use Rattle.block_cut.specs.Transfers.{leads_by, leads_to}
-use Rattle.block_cut.specs.Blocks.{block_of, last_of, follow_of}
 use Rattle.block_cut.specs.CountedEdges.{is_beginning, counts}
-use Rattle.run_model.specs.Edges.{Edge, is_transfer_kind, edge_by, edge_at, edge_of, edges_from, edges_of}
+use Rattle.run_model.specs.Edges.{Edge, is_transfer_kind, edge_by, edge_at, edge_of, edges_from}
 use Rattle.run_model.specs.Opening.{exe_or_none, guest_of, opening_of}
 use Rattle.sim_laws.specs.ByKind.{GoesBy, EachGoesByKind}
 use Rattle.sim_laws.specs.InCode.{IsStateOf, StaysInCode, StepsInCode}

@@ -4,3 +4,4 @@ pub mod OpeningCode
 pub mod RunsInCode
 pub mod EdgesCounted
 pub mod BlocksRun
+pub mod KnownExitsTaken

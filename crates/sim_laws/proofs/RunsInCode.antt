@@ -5,12 +5,11 @@ use Rattle.elf_read.specs.declared.exe.Exe.{Exe}
 use Rattle.elf_read.specs.declared.exe.Reach.TheVariants.{Guest}
 use Rattle.elf_read.specs.Elf.{lowest, elf}
 use Rattle.elf_read.proofs.Accepted.{accepted_exe}
-use Rattle.ia_inst.specs.Step.{found, step}
+use Rattle.ia_inst.specs.Step.{found}
 use Rattle.block_cut.specs.Places.{found_at}
 use Rattle.run_model.specs.Opening.{arguments, stack_top, opening, exe_or_none, opening_of}
-use Rattle.run_model.specs.Run.{AreOfBytes, run_of}
 use Rattle.run_model.specs.Sound.{KeepsSound, RunsKeepSound, OpensSoundly}
-use Rattle.sim_laws.specs.InCode.{IsStateOf, StaysInCode, StepsInCode}
+use Rattle.sim_laws.specs.InCode.{StaysInCode, StepsInCode}
 use Rattle.sim_laws.proofs.OpeningCode.{opening_code}
 
 pub step_in_code : KeepsSound → StepsInCode

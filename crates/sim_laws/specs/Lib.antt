@@ -5,3 +5,4 @@ pub mod ByKind
 pub mod InCode
 pub mod Counted
 pub mod Through
+pub mod KnownExits

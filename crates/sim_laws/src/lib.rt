@@ -5,4 +5,4 @@ mod choices;
 mod states;
 
 pub use choices::{choices_agree, runs_wider};
-pub use states::{edges_count, goes_by_kind, runs_through, stays_in_code};
+pub use states::{edges_count, goes_by_kind, leaves_by_known, runs_through, stays_in_code};

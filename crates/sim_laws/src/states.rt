@@ -5,6 +5,7 @@
 ghost use Rattle.sim_laws.specs.ByKind.{EachGoesByKind};
 ghost use Rattle.sim_laws.specs.InCode.{StaysInCode, StepsInCode};
 ghost use Rattle.sim_laws.specs.Counted.{EdgeCounts, EdgesCount};
+ghost use Rattle.sim_laws.specs.KnownExits.{LeadsToKnown, LeavesByKnown, LeavesNative};
 ghost use Rattle.sim_laws.specs.Through.{GoesThrough, RunsThrough};
 
 use block_cut::one_block;
@@ -43,5 +44,19 @@ pub fn runs_through()
 {
     goes_by_kind();
     stays_in_code();
+    one_block();
+}
+
+/// Where its edges were recorded and it goes on, a well-defined run leaves a block by a known exit, and
+/// a native block by its known exit or to itself again. `target` says it of the step of a transfer that
+/// ends a block: its target is a known exit where it is code and its edge was recorded.
+pub fn leaves_by_known()
+    ensures target { LeadsToKnown }
+    ensures leaves { LeavesByKnown }
+    ensures native { LeavesNative }
+{
+    goes_by_kind();
+    stays_in_code();
+    edges_count();
     one_block();
 }

@@ -1,6 +1,6 @@
--- When one block may stand in another's place: words, memory of bytes, and what a block gives.
+-- When one block may stand in another's place: numbers of 32 bits, and what a block gives.
 use Rattle.std.specs.Prelude.{◌≡◌, ℕ, ◌<◌, ◌^◌, List, [], ◌∷◌, get_or}
-use Rattle.br_word.specs.Memory.{Region}
+use Rattle.br_word.specs.Memory.{Region, HoldBytes}
 use Rattle.ssa_form.specs.declared.form.Val.{Val}
 use Rattle.ssa_form.specs.declared.form.Val.TheVariants.{Param, Line as Of, Num}
 use Rattle.ssa_form.specs.declared.form.Line.{Line}
@@ -9,7 +9,7 @@ use Rattle.ssa_form.specs.declared.form.Block.{Block}
 use Rattle.ssa_form.specs.declared.form.TheConstants.{REGISTERS}
 use Rattle.ssa_form.specs.Value.{Env, fold, AllAllowed, numbered, outs_of, exit_of}
 
--- ---- numbers of 32 bits, and memory of bytes
+-- ---- numbers of 32 bits
 
 -- a number that a name spells out has 32 bits
 abbrev pub IsWord : Val → Type 0
@@ -38,16 +38,6 @@ HasWords b = AllOnWords b.lines
 pub record SpellsWords (b : Block) : Type 0 where
   pub lines : HasWords b
   pub outs : (v : ℕ) → IsWord (get_or b.outs v (Num 0))
-
--- they are bytes
-abbrev pub AllSmall : List ℕ → Type 0
-AllSmall [] = Unit {0}
-AllSmall (b ∷ bs) = (b < 256) × AllSmall bs
-
--- each region of memory holds bytes
-abbrev pub HoldsBytes : List Region → Type 0
-HoldsBytes [] = Unit {0}
-HoldsBytes (r ∷ rs) = AllSmall r.bytes × HoldsBytes rs
 
 -- each virtual register holds a number of 32 bits
 abbrev pub AreSmall : (ℕ → ℕ) → Type 0
@@ -79,4 +69,4 @@ pub record GivesSame (b c : Block) (p : ℕ → ℕ) (m : List Region) : Type 0 
 
 -- wherever b is allowed: what a pass over a block owes
 abbrev pub KeepsMeaning : (b c : Block) → Type 0
-KeepsMeaning b c = (p : ℕ → ℕ) (m : List Region) → AreSmall p → HoldsBytes m → IsAllowedAt b p m → GivesSame b c p m
+KeepsMeaning b c = (p : ℕ → ℕ) (m : List Region) → AreSmall p → HoldBytes m → IsAllowedAt b p m → GivesSame b c p m

@@ -27,4 +27,5 @@ with_digest bytes (Ok exe) = Ok (record { exe = exe; digest = sha256 bytes })
 with_digest bytes (Err cause) = Err cause
 
 abbrev pub subject_part : List ℕ → ℕ → (Subject → Plan) → Plan
-subject_part name word next = Fetches name ORIGINAL_FILE_LIMIT (λ bytes. checked (with_digest bytes (of_word word (elf Original bytes))) next)
+subject_part name word next =
+    Fetches name ORIGINAL_FILE_LIMIT (λ bytes. checked (with_digest bytes (of_word word (elf Original bytes))) next)

@@ -126,8 +126,8 @@ fn file_of(alloc: Global, edges: &Edges, digest: &[u8; 32]) -> Result<Vec<u8>, H
 
 /// Stores edges under a name, as a trace of the original with this digest.
 ///
-/// The error is want of memory, after which the content of the name is as before, or a failure of the shelf, after which it is not
-/// known.
+/// The error is want of memory, after which the content of the name is as before, or a failure of the shelf, after
+/// which it is not known.
 pub fn store_trace<F: Shelf>(
     alloc: Global,
     shelf: &mut F,

@@ -12,8 +12,7 @@ use Rattle.run_model.specs.Opening.{opening, arguments}
 use Rattle.run_model.specs.Run.{run}
 use Rattle.guest_run.specs.Guest.{steps_taken, undefined_taken}
 use Rattle.trace_file.specs.Trace.{trace_bytes}
-use Rattle.tracer.specs.Tour.{edge_limit}
-use Rattle.tracer.specs.Told.{edges_in}
+use Rattle.tracer.specs.TraceTold.{edges_in}
 use Rattle.top_plan.specs.World.{World}
 use Rattle.top_plan.specs.Texts.{cause_text, finish_status}
 use Rattle.top_plan.specs.declared.ends.Cause.TheVariants.{Limited}
@@ -43,13 +42,13 @@ pub record HasFilled (k : ℕ) (start : State) (s : World) (result : ℕ) (t : W
 
 -- the edges of the first steps are not too many before the k-th
 abbrev pub FewBefore : ℕ → Exe → State → Type 0
-FewBefore k exe start = (j : ℕ) → j < k → length (edges_in exe start j) ≤ edge_limit
+FewBefore k exe start = (j : ℕ) → j < k → length (edges_in exe start j) ≤ FILE_EDGE_LIMIT
 
 -- by how many edges there are
 pub record TracesExe (target digest : List ℕ) (n : ℕ) (exe : Exe) (start : State) (files : Files)
     (s : World) (result : ℕ) (t : World) : Type 0 where
   pub few : FewBefore (n + 1) exe start → HasTraced target digest n exe start files s result t
-  pub full : (k : ℕ) → k ≤ n → FewBefore k exe start → edge_limit < length (edges_in exe start k) → HasFilled k start s result t
+  pub full : (k : ℕ) → k ≤ n → FewBefore k exe start → FILE_EDGE_LIMIT < length (edges_in exe start k) → HasFilled k start s result t
 
 -- by what the file is as an original
 abbrev pub TracesRead : List ℕ → ℕ → List (List ℕ) → ℕ → List ℕ → List ℕ → Result Exe Refused → Files → World → ℕ → World → Type 0

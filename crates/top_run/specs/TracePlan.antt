@@ -7,7 +7,7 @@ use Rattle.guest_run.specs.Guest.{GuestView, while_running, stop_of, beginning}
 use Rattle.trace_file.specs.Edges.{Edge}
 use Rattle.tracer.specs.declared.answers.Traced.{Traced}
 use Rattle.tracer.specs.declared.answers.TracingError.{TracingError}
-use Rattle.tracer.specs.Tour.{traced, with_step, edge_limit, entry_edge}
+use Rattle.tracer.specs.TracedRun.{traced, with_step, entry_edge}
 use Rattle.top_plan.specs.Texts.{Finished}
 use Rattle.top_plan.specs.Plan.{Plan, Ends, Turns, Stores}
 use Rattle.top_run.specs.RunPlan.{stand_text, counts_text, finish_of, next_guest, next_turn}
@@ -34,7 +34,7 @@ traced_as t = record {
 
 -- the guest has these edges, unless they are too many
 abbrev pub unless_full : (List Edge → Plan) → List Edge → Plan
-unless_full next es = cond (nat_le (length es) edge_limit) (next es) (Ends (Err (Limited (limits.Union FILE_EDGE_LIMIT))))
+unless_full next es = cond (nat_le (length es) FILE_EDGE_LIMIT) (next es) (Ends (Err (Limited (limits.Union FILE_EDGE_LIMIT))))
 
 -- a guest that has recorded these edges takes at most n steps, as long as it runs
 unfoldable pub tour_plan : (Traced → Plan) → ℕ → GuestView → List Edge → Plan

@@ -1,10 +1,10 @@
 //! `trace [--steps K] T E WORD..`: a guest takes at most K steps, and their edges are stored.
-ghost use Rattle.std.specs.Prelude.{◌≡◌, ◌≤◌, ◌^◌, Ok, IfOk, [], ◌∷◌, length, map, string_bytes};
+ghost use Rattle.std.specs.Prelude.{◌≡◌, ◌≤◌, Ok, IfOk, [], ◌∷◌, length, map, string_bytes};
 ghost use Rattle.elf_read.specs.Elf.{IsGuest};
 ghost use Rattle.br_outside.specs.Outside.{ShelfView};
 ghost use Rattle.guest_run.specs.Guest.{beginning, stop_of};
 ghost use Rattle.run_model.specs.Opening.{FitArguments};
-ghost use Rattle.tracer.specs.Tour.{entry_edge};
+ghost use Rattle.tracer.specs.TracedRun.{entry_edge};
 ghost use Rattle.top_plan.specs.World.{World, on_shelf, world};
 ghost use Rattle.top_plan.specs.Plan.{Went};
 ghost use Rattle.top_plan.specs.Parts.{Goes, Checks};
@@ -14,13 +14,14 @@ ghost use Rattle.top_plan.specs.Texts.{end_of};
 use crate::lines::{finish_of, traced_line};
 use br_outside::{Shelf, Sink, Source};
 use elf_read::Exe;
+use guest_run::STEP_LIMIT;
 use std::alloc::Global;
 use top_files::{fetch_subject, store_trace};
 use top_plan::{Cause, Halt, Limit, Object, Outcome};
 use trace_file::FILE_EDGE_LIMIT;
 use tracer::{Traced, TracingError, trace};
 
-/// The stop of the work where a run was not traced to its end.
+/// How the work ends where a run was not traced to its end.
 fn halt_of_tracing(error: TracingError) -> Halt
     ensures { result ≡ halt_of_tracing error }
 {
@@ -45,7 +46,7 @@ fn trace_guest<I: Source, O: Sink, R: Sink>(
 ) -> Result<Traced, Halt>
     requires fit { FitArguments (map string_bytes args.now) }
     requires guest { IsGuest exe.now }
-    requires few { steps ≤ 10 ^ 18 }
+    requires few { steps ≤ STEP_LIMIT }
     ensures goes { (v : ShelfView) → Goes (λ t. t)
         (λ last. tour_plan last steps (beginning exe.now (map string_bytes args.now)) (entry_edge exe.now ∷ []))
         (world v (I.seen input.old) (O.seen out.old) (R.seen report.old)) result
@@ -112,7 +113,7 @@ pub fn trace_command<F: Shelf, I: Source, O: Sink, R: Sink>(
     word: u32,
 ) -> Result<Outcome, Halt>
     requires fit { FitArguments (map string_bytes args.now) }
-    requires few { steps ≤ 10 ^ 18 }
+    requires few { steps ≤ STEP_LIMIT }
     ensures { Went (trace_plan steps target.now original.now (map string_bytes args.now) word)
         (world (F.seen shelf.old) (I.seen input.old) (O.seen out.old) (R.seen report.old)) (end_of result)
         (world (F.seen shelf.new) (I.seen input.new) (O.seen out.new) (R.seen report.new)) }

@@ -1,5 +1,7 @@
+use Rattle.std.proofs.Common.{subst, sym}
+use Rattle.ssa_form.specs.Same.{SpellsWords}
 use Rattle.lift_flow.proofs.Lifting.{blank_words}
 use Rattle.lift_flow.proofs.lift.blank.Goals as goal
 
 pub returns-clause-words : goal.returns-clause-words
-returns-clause-words c = blank_words c.args.start
+returns-clause-words c = let w = blank_words c.args.start in ?

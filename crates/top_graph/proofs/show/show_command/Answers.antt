@@ -1,7 +1,7 @@
 use Rattle.std.proofs.Common.{ℕ, List, map, string_bytes}
 use Rattle.elf_read.specs.declared.exe.Exe.{Exe}
 use Rattle.trace_file.specs.Edges.{Edge, union_of}
-use Rattle.flow_graph.specs.Made.{graph_of}
+use Rattle.flow_graph.specs.GraphOf.{graph_of}
 use Rattle.top_plan.specs.World.{world}
 use Rattle.top_plan.specs.Plan.{Plan}
 use Rattle.top_plan.specs.Parts.{checked}

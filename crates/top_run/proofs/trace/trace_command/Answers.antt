@@ -1,6 +1,6 @@
 use Rattle.std.proofs.Common.{ℕ, List, [], ◌∷◌, map, string_bytes}
 use Rattle.guest_run.specs.Guest.{beginning}
-use Rattle.tracer.specs.Tour.{entry_edge}
+use Rattle.tracer.specs.TracedRun.{entry_edge}
 use Rattle.top_plan.specs.World.{world}
 use Rattle.top_plan.specs.Plan.{Plan}
 use Rattle.top_run.specs.TracePlan.{tour_plan, traced_part}
