@@ -4,7 +4,7 @@ use Rattle.std.specs.Prelude.{All, Contains, IsTrue, Option, is_some}
 use Rattle.std.specs.Ordering.{nat_cmp, is_eq}
 use Rattle.std.specs.BTreeMap.{is_at}
 use Rattle.std.specs.Map.{lookup}
-use Rattle.std.specs.BTreeMap.{BTreeMap, get, keys, Updates, IsOrdered, IsUnchanged, btree_map_len}
+use Rattle.std.specs.BTreeMap.{BTreeMap, get, keys, Updates, IsOrdered, btree_map_len}
 use Rattle.std.proofs.lemmas.Cmp.{nat_cmp_total}
 use Rattle.std.proofs.lemmas.Map.Lookups.{exact_unsigned}
 use Rattle.std.proofs.lemmas.Map.Views.{btree_map_contains_key_iff, btree_map_get_iff}

@@ -15,7 +15,7 @@ use Rattle.block_cut.specs.declared.ends.End.{End}
 use Rattle.block_cut.specs.declared.ends.End.TheVariants.{Transfer, Island, BeforeIsland, Unreadable, Full}
 use Rattle.block_cut.specs.Places.{Placed, found_at, inst_found}
 use Rattle.block_cut.specs.Blocks.{size_of, StandFrom, ArePlain, EndWith, EndsSo, IsBlock, block_of, EachHasOneBlock}
-use Rattle.block_cut.proofs.Standing.{inside}
+use Rattle.block_cut.proofs.Standing.{HasBytes, inside}
 use Rattle.run_model.specs.Run.{Observation, run, WellDefined}
 use Rattle.sim_laws.specs.ByKind.{IsQuiet, GoesBy, EachGoesByKind}
 use Rattle.sim_laws.specs.InCode.{IsStateOf, StepsInCode}
@@ -26,7 +26,7 @@ pub record Went (i : Inst) (n : ℕ) (s : State) (c : ℕ) : Type 0 where
   pub way : step_result s c ≡ On (step s c)
   pub goes : GoesBy (kind_of i) i n s (step s c)
 
-module _ (by_kind : EachGoesByKind) (steps : StepsInCode) (one : EachHasOneBlock) (exe : Exe) (guest : IsGuest exe) where
+module _ (by_kind : EachGoesByKind) (steps : StepsInCode) (one : EachHasOneBlock) (bytes : HasBytes) (exe : Exe) (guest : IsGuest exe) where
   pub block_is : (start : ℕ) → IsBlock exe start (block_of exe start)
   block_is start = (one exe start (block_of exe start)).1 refl
 
@@ -52,7 +52,7 @@ module _ (by_kind : EachGoesByKind) (steps : StepsInCode) (one : EachHasOneBlock
 
   pub behind : (at : ℕ) (i : Inst) (n : ℕ) → found_at exe at ≡ There i n → wrap (at + n) ≡ at + n
   behind at i n f =
-      let l : at + n ≤ 0xA0000000 = inside exe at (Some (i, n)) guest (ap inst_found (sym f)) in
+      let l : at + n ≤ 0xA0000000 = inside exe at (Some (i, n)) bytes guest (ap inst_found (sym f)) in
       mod-eq_of_lt (omega (arith, l))
 
   pub plain_step : (s : State) (p : Placed) → IsStateOf exe s → s.stop ≡ Running → found_at exe s.eip ≡ There p.inst p.size → kind_of p.inst ≡ kinds.Plain → IsWellDefined s

@@ -29,6 +29,7 @@ use Rattle.sim_laws.specs.InCode.{IsStateOf, StepsInCode}
 use Rattle.sim_laws.specs.Counted.{EdgeCounts}
 use Rattle.sim_laws.specs.Through.{Comes}
 use Rattle.sim_laws.specs.KnownExits.{LeadsToKnown}
+use Rattle.block_cut.proofs.Standing.{HasBytes}
 use Rattle.sim_laws.proofs.BlocksRun.{went, comes, comes_on, behind, plain_step, through, block_is}
 
 -- ---- lists of edges
@@ -83,7 +84,7 @@ module _ (counted : EdgeCounts) (exe : Exe) where
       ap (λ x. targets_from x (counting exe es)) (sym last) ∙ ap (λ e. known_by e (targets_from (last_of start (block_of exe start).insts) (counting exe es)) (option_to_list (follow_of exe start))) (sym end) in
       subst (λ xs. Contains xs target) is (has_target s.eip target es traced count)
 
-module _ (by_kind : EachGoesByKind) (steps : StepsInCode) (known : LeadsToKnown) (one : EachHasOneBlock) (exe : Exe) (guest : IsGuest exe) where
+module _ (by_kind : EachGoesByKind) (steps : StepsInCode) (known : LeadsToKnown) (one : EachHasOneBlock) (bytes : HasBytes) (exe : Exe) (guest : IsGuest exe) where
   -- ---- a block that ends with a transfer
 
   -- the last step is a transfer, whose edge is the last of the run
@@ -98,7 +99,7 @@ module _ (by_kind : EachGoesByKind) (steps : StepsInCode) (known : LeadsToKnown)
   transfer_step : (es : List Edge) (s : State) (p : Placed) → IsStateOf exe s → s.stop ≡ Running → found_at exe s.eip ≡ There p.inst p.size → kind_of p.inst ≡ kinds.Transfer → IsWellDefined s
       → AllIn es (edge_of s.stop s 0) → Jumps es s (step s 0) s.eip
   transfer_step es s p h r f k w a =
-      let g = went by_kind steps one exe guest s p.inst p.size 0 h r f (w.no_fault r) in
+      let g = went by_kind steps one bytes exe guest s p.inst p.size 0 h r f (w.no_fault r) in
       let goes : GoesBy kinds.Transfer p.inst p.size s (step s 0) = subst (λ k. GoesBy k p.inst p.size s (step s 0)) k g.goes in
       let edge : edge_of s.stop s 0 ≡ (s.eip, (step s 0).eip) ∷ [] =
       ap (λ stop. edge_of stop s 0) r ∙ ap (λ f. edge_at f s 0) (h.code s.eip ∙ f) ∙ ap (λ k. edge_by (is_transfer_kind k) (step_result s 0) s.eip) k ∙ ap (λ w. edge_by true w s.eip) g.way in
@@ -108,7 +109,7 @@ module _ (by_kind : EachGoesByKind) (steps : StepsInCode) (known : LeadsToKnown)
         eip = refl;
         edge = edge;
         traced = (subst (AllIn es) edge a).0;
-        comes = comes by_kind steps one exe guest s 0 h r goes.2;
+        comes = comes by_kind steps one bytes exe guest s 0 h r goes.2;
       }
 
   jumps : (es : List Edge) (is : List Placed) (s : State) → IsStateOf exe s → s.stop ≡ Running → StandFrom exe s.eip is → EndWith kinds.Transfer is → WellDefined (length is) s
@@ -117,9 +118,9 @@ module _ (by_kind : EachGoesByKind) (steps : StepsInCode) (known : LeadsToKnown)
   jumps es (p ∷ []) s h r st en w a at =
       subst (Jumps es s (step s 0)) (sym st.0) (transfer_step es s p h r st.1 en w.0 (in_left es (edge_of s.stop s 0) [] a))
   jumps es (p ∷ q ∷ qs) s h r st en w a at =
-      let first = plain_step by_kind steps one exe guest s p h r st.1 en.0 w.0 in
+      let first = plain_step by_kind steps one bytes exe guest s p h r st.1 en.0 w.0 in
       let rest = jumps es (q ∷ qs) (step s 0) first.0.of first.0.running (subst (λ at. StandFrom exe at (q ∷ qs)) (sym first.1) st.2) en.1 w.1 (in_right es (edge_of s.stop s 0) (edges_from (length (q ∷ qs)) (step s 0)) a) p.at in
-      record { before = rest.before; of = rest.of; eip = rest.eip; edge = rest.edge; traced = rest.traced; comes = comes_on by_kind steps one exe guest s (step s 0) _ first.0 rest.comes }
+      record { before = rest.before; of = rest.of; eip = rest.eip; edge = rest.edge; traced = rest.traced; comes = comes_on by_kind steps one bytes exe guest s (step s 0) _ first.0 rest.comes }
 
   -- ---- how a block is left
 
@@ -159,12 +160,12 @@ module _ (by_kind : EachGoesByKind) (steps : StepsInCode) (known : LeadsToKnown)
     t = run (length b.insts) s []
 
     block : IsBlock exe s.eip b
-    block = block_is by_kind steps one exe guest s.eip
+    block = block_is by_kind steps one bytes exe guest s.eip
 
     behind_plain : (e : End) → b.end ≡ e → is_followed e ≡ true → ((x y : List ℕ) → known_by e x y ≡ y) → ArePlain b.insts → WellDefined (length b.insts) s → IsWellDefined t
         → Comes exe s t × Contains (known_of exe (counting exe es) s.eip) t.eip
     behind_plain e end fo by pl w u =
-        let x = through by_kind steps one exe guest b.insts s h r block.stand pl w in
+        let x = through by_kind steps one bytes exe guest b.insts s h r block.stand pl w in
         let y = stands t x.0.of x.0.running u in
         (x.0, next_known (counting exe es) s.eip t.eip e end fo by x.1 (in_code t.eip y.0 y.1 y.2))
 
@@ -183,7 +184,7 @@ module _ (by_kind : EachGoesByKind) (steps : StepsInCode) (known : LeadsToKnown)
         by_end Island e k = absurd (native e)
         by_end BeforeIsland e k = behind_plain BeforeIsland e refl (λ x y. refl) k.0 w u
         by_end Unreadable e k =
-            let x = through by_kind steps one exe guest b.insts s h r block.stand k.0 w in
+            let x = through by_kind steps one bytes exe guest b.insts s h r block.stand k.0 w in
             let y = stands t x.0.of x.0.running u in
             absurd (none_some (kind_of y.0) (sym k.2 ∙ ap (λ at. kind_found (found_at exe at)) (sym x.1) ∙ ap kind_found y.2))
         by_end Full e k = behind_plain Full e refl (λ x y. refl) k.0 w u
@@ -200,11 +201,11 @@ module _ (by_kind : EachGoesByKind) (steps : StepsInCode) (known : LeadsToKnown)
         by_insts [] e st k l = absurd k
         by_insts (p ∷ q ∷ qs) e st k l = absurd (omega (arith, l))
         by_insts (p ∷ []) e st k l =
-            let g = went by_kind steps one exe guest s p.inst p.size 0 h r st.1 (w.no_fault r) in
+            let g = went by_kind steps one bytes exe guest s p.inst p.size 0 h r st.1 (w.no_fault r) in
             let goes : GoesBy kinds.Island p.inst p.size s (step s 0) = subst (λ k. GoesBy k p.inst p.size s (step s 0)) k g.goes in
             let y = stands (step s 0) (steps exe s 0 h) x u in
             let sum : s.eip + p.size ≡ s.eip + size_of (p ∷ []) = omega arith in
             let next : s.eip + p.size ≡ next_of exe s.eip = sum ∙ ap (λ is. s.eip + size_of is) (sym e) in
             ⊎_elim
-            (λ (f : (step s 0).eip ≡ wrap (s.eip + p.size)). inr (next_known es s.eip (step s 0).eip Island end refl (λ x y. refl) (f ∙ behind by_kind steps one exe guest s.eip p.inst p.size st.1 ∙ next) (in_code (step s 0).eip y.0 y.1 y.2)))
+            (λ (f : (step s 0).eip ≡ wrap (s.eip + p.size)). inr (next_known es s.eip (step s 0).eip Island end refl (λ x y. refl) (f ∙ behind by_kind steps one bytes exe guest s.eip p.inst p.size st.1 ∙ next) (in_code (step s 0).eip y.0 y.1 y.2)))
             (λ (f : (step s 0).eip ≡ s.eip). inl f) goes.0

@@ -9,6 +9,7 @@ ghost use Rattle.sim_laws.specs.KnownExits.{LeadsToKnown, LeavesByKnown, LeavesN
 ghost use Rattle.sim_laws.specs.Through.{GoesThrough, RunsThrough};
 
 use block_cut::one_block;
+use ia_decode::encoding_length;
 use run_model::{keeps_sound, opens_soundly};
 
 /// The states of a run of an accepted file of bytes are sound, and at each address stands what stands
@@ -45,6 +46,7 @@ pub fn runs_through()
     goes_by_kind();
     stays_in_code();
     one_block();
+    encoding_length();
 }
 
 /// Where its edges were recorded and it goes on, a well-defined run leaves a block by a known exit, and
@@ -59,4 +61,5 @@ pub fn leaves_by_known()
     stays_in_code();
     edges_count();
     one_block();
+    encoding_length();
 }

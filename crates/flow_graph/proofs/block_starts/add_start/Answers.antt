@@ -1,4 +1,4 @@
-use Rattle.std.proofs.Common.{◌≡◌, ◌+◌, Some, arith, inl, sym, ◌∙◌}
+use Rattle.std.proofs.Common.{◌≡◌, Some, arith, inl, sym, ◌∙◌}
 use Rattle.block_cut.specs.Blocks.{follow_of}
 use Rattle.flow_graph.specs.CutStarts.{has_start}
 use Rattle.flow_graph.proofs.StartSets.{adds, cut_more, sound_more, closed_more, added_more, reached_more}

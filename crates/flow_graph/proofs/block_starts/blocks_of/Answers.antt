@@ -5,7 +5,7 @@ use Rattle.block_cut.specs.declared.ends.Cut.{Cut}
 use Rattle.run_model.specs.Edges.{Edge}
 use Rattle.flow_graph.specs.Graph.{AreStarts}
 use Rattle.flow_graph.specs.CutStarts.{IsCutBlock, starts_with, has_start}
-use Rattle.flow_graph.proofs.StartSets.{start_of_all, targets_step, are_starts, cut_blocks, none_cut, too_many, grown_sound}
+use Rattle.flow_graph.proofs.StartSets.{start_of_all, targets_step, are_starts, cut_blocks, too_many, grown_sound}
 use Rattle.flow_graph.proofs.block_starts.blocks_of.Goals as goal
 
 pub returns-in-Err-clause-many : goal.returns-in-Err-clause-many

@@ -7,8 +7,9 @@ returns c =
     let steps = c.stays_in_code.ensures.step in
     let known = leads_to_known c.edges_count.ensures.step in
     let one = c.one_block.ensures in
+    let bytes = c.encoding_length.ensures in
     record {
       target = known;
-      leaves = λ exe es s g h r n w u a. leaves goes steps known one exe g es s h r n w u a;
-      native = λ exe es s g h r e w x u. native goes steps known one exe g es s h r e w x u;
+      leaves = λ exe es s g h r n w u a. leaves goes steps known one bytes exe g es s h r n w u a;
+      native = λ exe es s g h r e w x u. native goes steps known one bytes exe g es s h r e w x u;
     }
