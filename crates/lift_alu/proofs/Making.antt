@@ -1,5 +1,5 @@
 -- Calls that follow one another make an expression, or a step of a row.
-use Rattle.std.proofs.Common.{◌≡◌, ◌≢◌, ℕ, zero, suc, ◌<◌, ◌≤◌, Bool, true, false, List, [], ◌∷◌, length, get_or, set, take, refl, sym, ap, ◌∙◌, arith}
+use Rattle.std.proofs.Common.{◌≡◌, ◌≢◌, ℕ, zero, suc, ◌<◌, Bool, true, false, List, length, get_or, set, refl, ap, ◌∙◌, arith}
 use Rattle.std.specs.Prelude.{nat_eq, ◌==◌, cond, if◌then◌else◌, replicate}
 use Rattle.std.proofs.lemmas.Grind.{common_steps}
 use Rattle.std.proofs.lemmas.Bool.{eqb-true}
@@ -14,7 +14,7 @@ use Rattle.ssa_form.specs.declared.form.OneOp.{OneOp}
 use Rattle.ssa_form.specs.declared.form.Line.TheVariants.{Bin, One, Select, Load, Store}
 use Rattle.lift_alu.specs.declared.row.Atom.{Atom}
 use Rattle.lift_alu.specs.declared.row.Atom.TheVariants as atom
-use Rattle.lift_alu.specs.Steps.{Spot, Expr, Cur, Got, Lit, Op, Fn, Sel, Name, Fetch, Put, Write, put, Rowed, row_step}
+use Rattle.lift_alu.specs.Steps.{Spot, Expr, Lit, Op, Fn, Sel, Name, Fetch, Put, Write, put, Rowed, row_step}
 use Rattle.lift_alu.specs.Operands.{masked, plus_disp}
 use Rattle.lift_alu.specs.Making.{atom_expr, vals_of, Made, with_line, with_name, with_out, line_made, made_of, atom_of, masked_of, disp_of}
 

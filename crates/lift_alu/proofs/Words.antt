@@ -1,6 +1,6 @@
 -- What lifting spells out has 32 bits.
 use Rattle.std.proofs.Common.{◌≡◌, ℕ, zero, suc, ◌+◌, ◌-◌, ◌/◌, ◌%◌, ◌^◌, ◌<◌, Bool, true, false, cond, List, [], ◌∷◌, ◌++◌, get_or, Option, Some, None, arith}
-use Rattle.std.specs.Prelude.{◌==◌, if◌then◌else◌, nat_lt}
+use Rattle.std.specs.Prelude.{◌==◌, nat_lt}
 use Rattle.br_word.specs.declared.types.Width.{Width}
 use Rattle.br_word.specs.declared.types.Width.TheVariants.{B8, B16, B32}
 use Rattle.br_word.specs.declared.types.ShiftOp.{ShiftOp}
@@ -15,23 +15,23 @@ use Rattle.ia_inst.specs.declared.inst.Src.{Src}
 use Rattle.ia_inst.specs.declared.inst.Src.TheVariants as src
 use Rattle.ia_inst.specs.declared.inst.Count.{Count}
 use Rattle.ia_inst.specs.declared.inst.Count.TheVariants as count
-use Rattle.ia_inst.specs.Canonical.{valid_of, rm_valid, address_valid, base_valid, index_valid, imm_valid, by_valid, move_valid, is_long, widens}
+use Rattle.ia_inst.specs.Canonical.{valid_of, rm_valid, address_valid, base_valid, index_valid, imm_valid, by_valid, is_long, widens}
 use Rattle.ia_inst.specs.Meaning.{wrap}
 use Rattle.ssa_form.specs.declared.form.Val.{Val}
 use Rattle.ssa_form.specs.declared.form.Val.TheVariants.{Num}
 use Rattle.ssa_form.specs.declared.form.BinOp.{BinOp}
 use Rattle.ssa_form.specs.declared.form.BinOp.TheVariants.{Add, Sub, And, Or, Xor, Ult, Mul, MulOver}
 use Rattle.ssa_form.specs.declared.form.Line.{Line}
-use Rattle.ssa_form.specs.declared.form.Line.TheVariants.{Bin, One, Select, Load, Store}
+use Rattle.ssa_form.specs.declared.form.Line.TheVariants.{Load, Store}
 use Rattle.ssa_form.specs.declared.form.Block.{Block}
 use Rattle.ssa_form.specs.Same.{IsWord, OnWords, AllOnWords, SpellsWords}
 use Rattle.lift_alu.specs.Steps.{Spot, Gpr, InCf, InPf, InZf, InSf, InOf, InDf, Regs, spot, Expr, Cur, Got, Lit, Op, Fn, Sel, Step, Name, Fetch, Put, Write, Draft, Emitted, append, emit, Rowed, row_step, row_steps, unnamed}
 use Rattle.lift_alu.specs.Operands.{masked, read_reg, write_reg, scaled, plus_disp, address_parts, place, read_operand, write_operand, source_place, read_source}
-use Rattle.lift_alu.specs.Table.{a', b', r', s', n', top, result_flags, sum_overflow, difference_overflow, extended, even_expr, condition_expr, factor, product_of, count_expr, shifted_operand, shift_line, carry_line, overflow_line}
+use Rattle.lift_alu.specs.Table.{a', b', r', s', n', top, result_flags, sum_overflow, difference_overflow, extended, even_expr, condition_expr, count_expr, shifted_operand, shift_line, carry_line, overflow_line}
 use Rattle.lift_alu.specs.Lifted.{row_of, row_alu, regs_of, draft_of, lifted}
 use Rattle.lift_alu.proofs.OperandLaws.{and_left, and_right, below_of}
 use Rattle.lift_alu.proofs.Frames.{IsSource}
-use Rattle.lift_alu.proofs.Kept.{set_one, take_one, spot_one, put_one}
+use Rattle.lift_alu.proofs.Kept.{take_one, spot_one, put_one}
 use Rattle.lift_alu.proofs.Rows.{move_dst, move_src, test_dst, test_src, push_src}
 
 -- ---- the numbers of a row

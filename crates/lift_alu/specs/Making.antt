@@ -17,7 +17,7 @@ use Rattle.lift_alu.specs.declared.row.Atom.TheVariants as atom
 use Rattle.lift_alu.specs.declared.row.Form.{Form}
 use Rattle.lift_alu.specs.declared.row.Form.TheVariants as form
 use Rattle.lift_alu.specs.Steps.{Spot, Gpr, InCf, InPf, InZf, InSf, InOf, InDf, spot, with_spot, Expr, Cur, Got, Lit, Op, Fn, Sel, Step}
-use Rattle.lift_alu.specs.Steps.{Name, Put, put, Draft, append, emit, Rowed}
+use Rattle.lift_alu.specs.Steps.{Name, Put, put, append, emit, Rowed}
 use Rattle.lift_alu.specs.Lifted.{regs_of}
 use Rattle.lift_alu.specs.Table.{top, r', n', set_a, unless_none, count_expr, shifted_operand, shift_line}
 

@@ -87,6 +87,15 @@ fn lines(alloc: Global, inst: &Inst, len: u8) -> Result<Vec<u8>, AllocError> {
     Ok(letters)
 }
 
+/// The line with an index; `Gone` where there is none.
+fn line(block: &Block, index: usize) -> Line {
+    if index < block.lines.len() {
+        block.lines.line(index)
+    } else {
+        Line::Gone
+    }
+}
+
 /// Whether lines are written so.
 fn reads(letters: &Vec<u8>, wanted: &[u8]) -> bool {
     letters.as_slice() == wanted
@@ -161,7 +170,7 @@ fn stack_and_transfers(rt: HostRuntime) -> Result<(), Fail> {
     assert!(rt; matches!(block.exit, Exit::Jump(0x0804_804F)));
     assert!(rt;
         matches!(
-            block.lines.line(1),
+            line(&block, 1),
             Line::Store {
                 a: Val::Num(0x0804_8059),
                 ..
@@ -171,7 +180,7 @@ fn stack_and_transfers(rt: HostRuntime) -> Result<(), Fail> {
     // ret 4
     let (letters, block) = lifted(alloc, &Inst::Ret { pop: 4 }, 3)?;
     assert!(rt; reads(&letters, b"L+"));
-    assert!(rt; matches!(block.lines.line(1), Line::Bin { b: Val::Num(8), .. }));
+    assert!(rt; matches!(line(&block, 1), Line::Bin { b: Val::Num(8), .. }));
     assert!(rt; matches!(block.exit, Exit::Way(Val::Line(0))));
     // jg
     let (letters, block) = lifted(alloc, &Inst::Jcc { cond: 15, rel: 16 }, 2)?;

@@ -53,6 +53,15 @@ fn block_at(rt: &impl Abort, alloc: Global, exe: &Exe, start: u32) -> Result<Blo
     lift_block(alloc, exe, start)
 }
 
+/// The line with an index; `Gone` where there is none.
+fn line(block: &Block, index: usize) -> Line {
+    if index < block.lines.len() {
+        block.lines.line(index)
+    } else {
+        Line::Gone
+    }
+}
+
 #[test]
 fn blocks_and_their_exits(rt: HostRuntime) -> Result<(), Fail> {
     // inc eax; int 0x80; jz 08048000; retn; nop; two bytes that spell nothing
@@ -87,7 +96,7 @@ fn blocks_and_their_exits(rt: HostRuntime) -> Result<(), Fail> {
     assert_eq!(rt; ret.lines.len(), 2);
     assert!(rt;
         matches!(
-            ret.lines.line(1),
+            line(&ret, 1),
             Line::Bin {
                 op: BinOp::Add,
                 a: Val::Param(4),
@@ -119,7 +128,7 @@ fn sixty_four_instructions(rt: HostRuntime) -> Result<(), Fail> {
     assert_eq!(rt; rest.lines.len(), 16);
     assert!(rt;
         matches!(
-            rest.lines.line(8),
+            line(&rest, 8),
             Line::Bin {
                 op: BinOp::Add,
                 a: Val::Line(0),

@@ -1,5 +1,4 @@
 use Rattle.std.proofs.Common.{◌≡◌, ◌+◌, ◌≤◌, true, length, sym, subst, ◌∙◌, ap}
-use Rattle.ia_inst.specs.Meaning.{wrap}
 use Rattle.ssa_form.specs.declared.form.Block.{Block}
 use Rattle.ssa_form.specs.Checked.{checked}
 use Rattle.lift_alu.specs.Lifted.{lifted}

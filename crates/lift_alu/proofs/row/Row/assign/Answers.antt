@@ -1,6 +1,5 @@
-use Rattle.std.proofs.Common.{◌≡◌, ℕ, ◌<◌, length, ap, arith}
+use Rattle.std.proofs.Common.{ℕ, ◌<◌, length, ap, arith}
 use Rattle.ssa_form.specs.declared.form.Val.{Val}
-use Rattle.lift_alu.specs.Steps.{Rowed}
 use Rattle.lift_alu.specs.Making.{rowed}
 use Rattle.lift_alu.proofs.Making.{vals_put}
 use Rattle.lift_alu.proofs.row.Row.assign.Goals as goal

@@ -1,9 +1,9 @@
-use Rattle.std.proofs.Common.{◌≡◌, ℕ, ◌/◌, ◌%◌, Bool, true, false, ap, ◌∙◌, sym, refl}
+use Rattle.std.proofs.Common.{◌≡◌, ℕ, ◌/◌, ◌%◌, Bool, true, false, ap, ◌∙◌, refl}
 use Rattle.std.specs.Prelude.{◌==◌, if◌then◌else◌}
-use Rattle.ssa_form.specs.declared.form.BinOp.TheVariants.{And, Or, Xor, Shr, Shl}
+use Rattle.ssa_form.specs.declared.form.BinOp.TheVariants.{Xor}
 use Rattle.lift_alu.specs.declared.row.Atom.TheVariants as atom
-use Rattle.lift_alu.specs.Steps.{Gpr, Expr, Cur, Got, Lit, Op}
-use Rattle.lift_alu.specs.Making.{form_expr, rowed, made, Made, made_of}
+use Rattle.lift_alu.specs.Steps.{Expr, Lit, Op}
+use Rattle.lift_alu.specs.Making.{rowed, made, made_of}
 use Rattle.lift_alu.specs.Table.{even_expr}
 use Rattle.lift_alu.proofs.Making.{with_made}
 use Rattle.lift_alu.proofs.row.Row.condition.Goals as goal

@@ -1,7 +1,7 @@
-use Rattle.ssa_form.specs.declared.form.BinOp.TheVariants.{And, Or, Xor, Shr, Shl}
+use Rattle.ssa_form.specs.declared.form.BinOp.TheVariants.{And}
 use Rattle.lift_alu.specs.declared.row.Atom.TheVariants as atom
-use Rattle.lift_alu.specs.Steps.{Gpr, Expr, Cur, Got, Lit, Op}
-use Rattle.lift_alu.specs.Making.{form_expr, rowed, made, Made, made_of}
+use Rattle.lift_alu.specs.Steps.{Got, Lit, Op}
+use Rattle.lift_alu.specs.Making.{form_expr, rowed, made}
 use Rattle.lift_alu.proofs.Making.{both_made, with_made, name_made}
 use Rattle.lift_alu.proofs.row.Row.last_bit.Goals as goal
 

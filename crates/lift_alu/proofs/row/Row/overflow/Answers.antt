@@ -1,8 +1,8 @@
 use Rattle.std.proofs.Common.{ℕ, ap, ◌∙◌}
-use Rattle.ssa_form.specs.declared.form.BinOp.TheVariants.{And, Or, Xor, Shr, Shl}
+use Rattle.ssa_form.specs.declared.form.BinOp.TheVariants.{And, Shr}
 use Rattle.lift_alu.specs.declared.row.Atom.TheVariants as atom
-use Rattle.lift_alu.specs.Steps.{Gpr, Expr, Cur, Got, Lit, Op}
-use Rattle.lift_alu.specs.Making.{form_expr, rowed, made, Made, made_of}
+use Rattle.lift_alu.specs.Steps.{Lit, Op}
+use Rattle.lift_alu.specs.Making.{form_expr, rowed, made, made_of}
 use Rattle.lift_alu.specs.Steps.{InOf}
 use Rattle.lift_alu.specs.Table.{top}
 use Rattle.lift_alu.proofs.Making.{both_made, with_made, out_made}

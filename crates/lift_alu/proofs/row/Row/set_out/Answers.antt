@@ -1,6 +1,6 @@
-use Rattle.std.proofs.Common.{◌≡◌, length, List, ap, arith}
+use Rattle.std.proofs.Common.{◌≡◌, length, ap, arith}
 use Rattle.ssa_form.specs.declared.form.Val.{Val}
-use Rattle.lift_alu.specs.Steps.{Regs, Rowed}
+use Rattle.lift_alu.specs.Steps.{Regs}
 use Rattle.lift_alu.specs.Making.{rowed}
 use Rattle.lift_alu.proofs.Outs.{spot_written}
 use Rattle.lift_alu.proofs.row.Row.set_out.Goals as goal
