@@ -1,0 +1,11 @@
+//! Parallel moves between the locations of recovered code: registers, and words of the private segment.
+#![tactic(auto)]
+
+mod locations;
+mod order;
+
+pub use locations::{MoveSource, Place, PlaceMove, SLOTS, SPARE};
+pub use order::sequence;
+
+#[cfg(test)]
+mod tests;
