@@ -8,7 +8,8 @@ use Rattle.par_moves.specs.declared.locations.Place.TheVariants.{Reg, Slot}
 use Rattle.par_moves.specs.declared.locations.MoveSource.{MoveSource}
 use Rattle.par_moves.specs.declared.locations.MoveSource.TheVariants.{Place as Of, Num}
 use Rattle.par_moves.specs.declared.locations.PlaceMove.{PlaceMove}
-use Rattle.par_moves.specs.Moves.{same_place, spare, is_from, is_ready, others, redirect, turn_of, sequenced, State, value_of, put, done, ActAtOnce, AreApart}
+use Rattle.par_moves.specs.Locations.{same_place, spare, is_from, held}
+use Rattle.par_moves.specs.Moves.{is_ready, others, redirect, turn_of, sequenced, Cells, put, done, ActAtOnce, AreApart}
 use Rattle.par_moves.proofs.Membership.{In, found, not_found, in_filter, filter_in, shorter, in_map, map_in, all_pass, some_fails, at_index, index_of}
 
 -- ---- places
@@ -75,22 +76,22 @@ redirect_to d [] = refl
 redirect_to d (m ∷ ms) = ap (λ ps. m.to ∷ ps) (redirect_to d ms)
 
 -- ---- states
-put_other : (s : State) (p q : Place) (v : ℕ) → same_place p q ≡ false → put s p v q ≡ s q
+put_other : (s : Cells) (p q : Place) (v : ℕ) → same_place p q ≡ false → put s p v q ≡ s q
 put_other s p q v e = ap (λ b. cond b v (s q)) e
 
-put_same : (s : State) (p q : Place) (v : ℕ) → same_place p q ≡ true → put s p v q ≡ v
+put_same : (s : Cells) (p q : Place) (v : ℕ) → same_place p q ≡ true → put s p v q ≡ v
 put_same s p q v e = ap (λ b. cond b v (s q)) e
 
-value_put : (s : State) (p : Place) (v : ℕ) (f : MoveSource) → is_from f p ≡ false → value_of (put s p v) f ≡ value_of s f
+value_put : (s : Cells) (p : Place) (v : ℕ) (f : MoveSource) → is_from f p ≡ false → held (put s p v) f ≡ held s f
 value_put s p v (Num n) e = refl
 value_put s p v (Of x) e = put_other s p x v (differ_sym x p e)
 
-saved_at : (s : State) (d x : Place) (b : Bool) → same_place x d ≡ b → same_place x spare ≡ false → value_of (put s spare (s d)) (cond b (Of spare) (Of x)) ≡ s x
+saved_at : (s : Cells) (d x : Place) (b : Bool) → same_place x d ≡ b → same_place x spare ≡ false → held (put s spare (s d)) (cond b (Of spare) (Of x)) ≡ s x
 saved_at s d x true e free = put_same s spare spare (s d) refl ∙ ap s (sym (same_true x d e))
 saved_at s d x false e free = put_other s spare x (s d) (differ_sym x spare free)
 
 -- after a save, a redirected source has the old source's value
-saved_value : (s : State) (d : Place) (f : MoveSource) → is_from f spare ≡ false → value_of (put s spare (s d)) (cond (is_from f d) (Of spare) f) ≡ value_of s f
+saved_value : (s : Cells) (d : Place) (f : MoveSource) → is_from f spare ≡ false → held (put s spare (s d)) (cond (is_from f d) (Of spare) f) ≡ held s f
 saved_value s d (Num n) free = refl
 saved_value s d (Of x) free = saved_at s d x (same_place x d) refl free
 
@@ -107,8 +108,8 @@ abbrev NoSpare : List PlaceMove → Type 0
 NoSpare ms = (m : PlaceMove) → In ms m → same_place m.to spare ≡ false
 
 record Acts (ms list : List PlaceMove) : Type 0 where
-  moved : (s : State) (m : PlaceMove) → In ms m → done list s m.to ≡ value_of s m.from
-  kept : (s : State) (q : Place) → ((m : PlaceMove) → In ms m → same_place m.to q ≡ false) → same_place spare q ≡ false → done list s q ≡ s q
+  moved : (s : Cells) (m : PlaceMove) → In ms m → done list s m.to ≡ held s m.from
+  kept : (s : Cells) (q : Place) → ((m : PlaceMove) → In ms m → same_place m.to q ≡ false) → same_place spare q ≡ false → done list s q ≡ s q
 
 -- where no move is ready, none reads the spare
 reader : (all : List PlaceMove) (x : PlaceMove) → ((r : PlaceMove) → In all r → is_ready all r ≡ false) → In all x → is_from x.from spare ≡ true → (p : Place) → In (spare ∷ map to_of all) p → (r : PlaceMove) × In all r × (is_from r.from p ≡ true)
@@ -131,36 +132,36 @@ none_reads all apart free stuck x i = elim (cases_Bool (is_from x.from spare)) a
 not_read : (f : MoveSource) (p : Place) (b : Bool) → b ≡ false → (b || not (is_from f p)) ≡ true → is_from f p ≡ false
 not_read f p b e h = elim (or_cases b (not (is_from f p)) h) as (λ _. is_from f p ≡ false) [ inl t ↦ absurd (both_ways b e t) | inr n ↦ not-true (is_from f p) n ]
 
-took_one : (all list : List PlaceMove) (r m : PlaceMove) (s : State) (b : Bool) → Apart all → NoSpare all → In all r → is_ready all r ≡ true → Acts (others r all) list → In all m → same_place m.to r.to ≡ b → done list (put s r.to (value_of s r.from)) m.to ≡ value_of s m.from
+took_one : (all list : List PlaceMove) (r m : PlaceMove) (s : Cells) (b : Bool) → Apart all → NoSpare all → In all r → is_ready all r ≡ true → Acts (others r all) list → In all m → same_place m.to r.to ≡ b → done list (put s r.to (held s r.from)) m.to ≡ held s m.from
 took_one all list r m s true apart free at ready h i e =
     let same = apart_same all m r apart i at e in
-    h.kept (put s r.to (value_of s r.from)) m.to (λ x j. let t = filter_in (λ (x : PlaceMove). not (same_place x.to r.to)) all x j in subst (λ q. same_place x.to q ≡ false) (sym (same_true m.to r.to e)) (not-true (same_place x.to r.to) t.1)) (differ_sym m.to spare (free m i))
-    ∙ put_same s r.to m.to (value_of s r.from) (ap (λ (x : PlaceMove). same_place r.to x.to) same ∙ same_refl r.to)
-    ∙ ap (λ (x : PlaceMove). value_of s x.from) (sym same)
+    h.kept (put s r.to (held s r.from)) m.to (λ x j. let t = filter_in (λ (x : PlaceMove). not (same_place x.to r.to)) all x j in subst (λ q. same_place x.to q ≡ false) (sym (same_true m.to r.to e)) (not-true (same_place x.to r.to) t.1)) (differ_sym m.to spare (free m i))
+    ∙ put_same s r.to m.to (held s r.from) (ap (λ (x : PlaceMove). same_place r.to x.to) same ∙ same_refl r.to)
+    ∙ ap (λ (x : PlaceMove). held s x.from) (sym same)
 took_one all list r m s false apart free at ready h i e =
-    h.moved (put s r.to (value_of s r.from)) m (in_filter (λ (x : PlaceMove). not (same_place x.to r.to)) all m (ap not e) i)
-    ∙ value_put s r.to (value_of s r.from) m.from (not_read m.from r.to (same_place m.to r.to) e (all_pass (λ (x : PlaceMove). same_place x.to r.to || not (is_from x.from r.to)) all m ready i))
+    h.moved (put s r.to (held s r.from)) m (in_filter (λ (x : PlaceMove). not (same_place x.to r.to)) all m (ap not e) i)
+    ∙ value_put s r.to (held s r.from) m.from (not_read m.from r.to (same_place m.to r.to) e (all_pass (λ (x : PlaceMove). same_place x.to r.to || not (is_from x.from r.to)) all m ready i))
 
 took : (all list : List PlaceMove) (r : PlaceMove) → Apart all → NoSpare all → In all r → is_ready all r ≡ true → Acts (others r all) list → Acts all (r ∷ list)
 unfolding done
 took all list r apart free at ready h = record {
   moved = λ s m i. took_one all list r m s (same_place m.to r.to) apart free at ready h i refl;
-  kept = λ s q apart_q ns. h.kept (put s r.to (value_of s r.from)) q (λ x j. apart_q x (filter_in (λ (x : PlaceMove). not (same_place x.to r.to)) all x j).0) ns ∙ put_other s r.to q (value_of s r.from) (apart_q r at);
+  kept = λ s q apart_q ns. h.kept (put s r.to (held s r.from)) q (λ x j. apart_q x (filter_in (λ (x : PlaceMove). not (same_place x.to r.to)) all x j).0) ns ∙ put_other s r.to q (held s r.from) (apart_q r at);
 }
 
-stuck_first : (m : PlaceMove) (ms list : List PlaceMove) (s : State) (x : PlaceMove) → Apart (m ∷ ms) → NoSpare (m ∷ ms) → ((y : PlaceMove) → In (m ∷ ms) y → is_from y.from spare ≡ false) → Acts (map (redirect m.to) ms) list → In (m ∷ ms) x → let s1 = put s spare (s m.to) in done list (put s1 m.to (value_of s1 (redirect m.to m).from)) x.to ≡ value_of s x.from
+stuck_first : (m : PlaceMove) (ms list : List PlaceMove) (s : Cells) (x : PlaceMove) → Apart (m ∷ ms) → NoSpare (m ∷ ms) → ((y : PlaceMove) → In (m ∷ ms) y → is_from y.from spare ≡ false) → Acts (map (redirect m.to) ms) list → In (m ∷ ms) x → let s1 = put s spare (s m.to) in done list (put s1 m.to (held s1 (redirect m.to m).from)) x.to ≡ held s x.from
 stuck_first m ms list s x apart free none h (inl is) =
     let s1 = put s spare (s m.to) in
-    let v = value_of s1 (redirect m.to m).from in
+    let v = held s1 (redirect m.to m).from in
     h.kept (put s1 m.to v) x.to (λ y j. let z = map_in (redirect m.to) ms y j in
     ap (λ (w : PlaceMove). same_place w.to x.to) z.2 ∙ ap (λ (w : PlaceMove). same_place z.0.to w.to) is ∙ differ_sym m.to z.0.to (apart.0 z.0.to (in_map to_of ms z.0 z.1)))
     (differ_sym x.to spare (free x (inl is)))
     ∙ put_same s1 m.to x.to v (ap (λ (w : PlaceMove). same_place m.to w.to) is ∙ same_refl m.to)
     ∙ saved_value s m.to m.from (none m (inl refl))
-    ∙ ap (λ (w : PlaceMove). value_of s w.from) (sym is)
+    ∙ ap (λ (w : PlaceMove). held s w.from) (sym is)
 stuck_first m ms list s x apart free none h (inr i) =
     let s1 = put s spare (s m.to) in
-    let v = value_of s1 (redirect m.to m).from in
+    let v = held s1 (redirect m.to m).from in
     h.moved (put s1 m.to v) (redirect m.to x) (in_map (redirect m.to) ms x i)
     ∙ value_put s1 m.to v (redirect m.to x).from (redirected_free m.to x.from (differ_sym m.to spare (free m (inl refl))))
     ∙ saved_value s m.to x.from (none x (inr i))
@@ -169,7 +170,7 @@ saved : (m : PlaceMove) (ms list : List PlaceMove) → Apart (m ∷ ms) → NoSp
 unfolding done
 saved m ms list apart free none h = record {
   moved = λ s x i. stuck_first m ms list s x apart free none h i;
-  kept = λ s q apart_q ns. let s1 = put s spare (s m.to) in let v = value_of s1 (redirect m.to m).from in
+  kept = λ s q apart_q ns. let s1 = put s spare (s m.to) in let v = held s1 (redirect m.to m).from in
       h.kept (put s1 m.to v) q (λ y j. let z = map_in (redirect m.to) ms y j in ap (λ (w : PlaceMove). same_place w.to q) z.2 ∙ apart_q z.0 (inr z.1)) ns
       ∙ put_other s1 m.to q v (apart_q m (inl refl)) ∙ put_other s spare q (s m.to) ns;
 }

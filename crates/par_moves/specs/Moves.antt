@@ -6,20 +6,7 @@ use Rattle.par_moves.specs.declared.locations.Place.TheVariants.{Reg, Slot}
 use Rattle.par_moves.specs.declared.locations.MoveSource.{MoveSource}
 use Rattle.par_moves.specs.declared.locations.MoveSource.TheVariants.{Place as Of, Num}
 use Rattle.par_moves.specs.declared.locations.PlaceMove.{PlaceMove}
-
-abbrev pub same_place : Place → Place → Bool
-same_place (Reg a) (Reg b) = a == b
-same_place (Slot a) (Slot b) = a == b
-same_place (Reg a) (Slot b) = false
-same_place (Slot a) (Reg b) = false
-
-abbrev pub spare : Place
-spare = Slot 16
-
--- the source is the place
-abbrev pub is_from : MoveSource → Place → Bool
-is_from (Of q) p = same_place q p
-is_from (Num n) p = false
+use Rattle.par_moves.specs.Locations.{same_place, spare, is_from, held}
 
 -- ---- the order
 
@@ -51,25 +38,22 @@ sequenced (suc n) (m ∷ ms) = let t = turn_of m ms (find (is_ready (m ∷ ms)) 
 
 -- ---- what moves do
 
-abbrev pub State : Type 0
-State = Place → ℕ
+-- what each location holds
+abbrev pub Cells : Type 0
+Cells = Place → ℕ
 
-abbrev pub value_of : State → MoveSource → ℕ
-value_of s (Of p) = s p
-value_of s (Num n) = n
-
-abbrev pub put : State → Place → ℕ → State
+abbrev pub put : Cells → Place → ℕ → Cells
 put s p v = λ q. cond (same_place p q) v (s q)
 
 -- the moves, one after another
-unfoldable pub done : List PlaceMove → State → State
+unfoldable pub done : List PlaceMove → Cells → Cells
 done [] s = s
-done (m ∷ ms) s = done ms (put s m.to (value_of s m.from))
+done (m ∷ ms) s = done ms (put s m.to (held s m.from))
 
 -- the moves one after another have the effect of the given ones at once
 pub record ActAtOnce (moves list : List PlaceMove) : Type 0 where
-  pub moved : (s : State) → All (λ m. done list s m.to ≡ value_of s m.from) moves
-  pub kept : (s : State) (q : Place) → All (λ m. same_place m.to q ≡ false) moves → same_place spare q ≡ false → done list s q ≡ s q
+  pub moved : (s : Cells) → All (λ m. done list s m.to ≡ held s m.from) moves
+  pub kept : (s : Cells) (q : Place) → All (λ m. same_place m.to q ≡ false) moves → same_place spare q ≡ false → done list s q ≡ s q
 
 -- distinct destinations, and none of them the spare
 abbrev pub AreApart : List PlaceMove → Type 0

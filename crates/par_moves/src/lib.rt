@@ -2,9 +2,11 @@
 #![tactic(auto)]
 
 mod locations;
+mod operands;
 mod order;
 
 pub use locations::{MoveSource, Place, PlaceMove, SLOTS, SPARE};
+pub use operands::{operand, source};
 pub use order::sequence;
 
 #[cfg(test)]

@@ -3,8 +3,8 @@
 /// How many slots the private segment has: its 65536 bytes in words of four.
 pub const SLOTS: u32 = 16384;
 
-/// The slot that breaks a cycle of moves.
-pub const SPARE: Place = Place::Slot(16);
+/// The number of the slot that breaks a cycle of moves.
+pub const SPARE: u32 = 16;
 
 /// Where recovered code keeps a 32-bit value.
 #[derive(Clone, Copy, Debug, PartialEq, Eq)]

@@ -1,7 +1,8 @@
 //! Moves that are to be done at once, as moves that are done one after another.
 ghost use Rattle.std.specs.Prelude.{◌≡◌, ℕ, ◌+◌, ◌<◌, ◌≤◌, ◌++◌, ◌∷◌, [], length, IfOk, List, IsTrue, true, false, All, map, find, filter};
 ghost use Rattle.par_moves.specs.declared.locations.PlaceMove.{PlaceMove};
-ghost use Rattle.par_moves.specs.Moves.{same_place, spare, is_from, is_ready, others, redirect, turn_of, sequenced, ActAtOnce, AreApart};
+ghost use Rattle.par_moves.specs.Locations.{same_place, spare, is_from};
+ghost use Rattle.par_moves.specs.Moves.{is_ready, others, redirect, turn_of, sequenced, ActAtOnce, AreApart};
 
 use crate::locations::{MoveSource, Place, PlaceMove, SPARE};
 use std::alloc::{AllocError, Global};
@@ -52,7 +53,7 @@ fn redirected(place: Place, m: PlaceMove) -> PlaceMove
     PlaceMove {
         to: m.to,
         from: if is_from(m.from, place) {
-            MoveSource::Place(SPARE)
+            MoveSource::Place(Place::Slot(SPARE))
         } else {
             m.from
         },
@@ -104,7 +105,7 @@ fn turn(
         None => {
             let m = pending[0];
             out.push(PlaceMove {
-                to: SPARE,
+                to: Place::Slot(SPARE),
                 from: MoveSource::Place(m.to),
             })?;
             out.push(redirected(m.to, m))?;
