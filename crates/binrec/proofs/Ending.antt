@@ -10,7 +10,7 @@ use Rattle.run_model.specs.Run.{run}
 use Rattle.guest_run.specs.Guest.{GuestView, while_running, steps_taken, undefined_taken, reads_undefined, ahead, asks_next}
 use Rattle.guest_run.proofs.Composed.{running_some, run_none, steps_none, undefined_none, steps_first, undefined_first}
 use Rattle.guest_run.proofs.Shown.{shown, run_shown, steps_shown, undefined_shown, ahead_shown, shown_bare}
-use Rattle.binrec.specs.Plans.Told.{Ending, ends_with, turned_before, expected}
+use Rattle.top_plan.specs.Expected.{Ending, ends_with, turned_before, expected}
 use Rattle.binrec.specs.Guests.{guest_plan, next_guest, next_turn, finished}
 use Rattle.binrec.proofs.Turning.{has_stopped, runs, none_left}
 

@@ -6,17 +6,17 @@ use Rattle.build_core.specs.declared.image.Built.{Built}
 use Rattle.elf_read.specs.declared.exe.Exe.{Exe}
 use Rattle.trace_file.specs.Edges.{Edge}
 use Rattle.trace_file.specs.Trace.{trace_bytes}
-use Rattle.binrec.specs.Plans.World.{World}
-use Rattle.binrec.specs.Plans.Texts.{Finished, End}
-use Rattle.binrec.specs.Plans.Plan.{Plan, Ends, Stores, Went}
+use Rattle.top_plan.specs.World.{World}
+use Rattle.top_plan.specs.Texts.{Finished, WorkEnd}
+use Rattle.top_plan.specs.Plan.{Plan, Ends, Stores, Went}
 use Rattle.binrec.specs.Commands.{image_part, built_line, done_with, end_of}
-use Rattle.binrec.specs.declared.acts.stop.Outcome.{Outcome}
-use Rattle.binrec.specs.declared.acts.stop.Stop.{Stop}
-use Rattle.binrec.specs.declared.acts.stop.Cause.{Cause}
-use Rattle.binrec.proofs.Plans.Runs.{ok_same}
+use Rattle.top_plan.specs.declared.ends.Outcome.{Outcome}
+use Rattle.top_plan.specs.declared.ends.Halt.{Halt}
+use Rattle.top_plan.specs.declared.ends.Cause.{Cause}
+use Rattle.top_plan.proofs.Passes.{ok_same}
 
 -- an error that ends the work
-pub ends_on : (plan : Plan) (s t : World) (stop : Stop) (r : Result Outcome Stop) → Went plan s (Err stop) t → IsErrAnd r (λ e. e ≡ stop) → Went plan s (end_of r) t
+pub ends_on : (plan : Plan) (s t : World) (stop : Halt) (r : Result Outcome Halt) → Went plan s (Err stop) t → IsErrAnd r (λ e. e ≡ stop) → Went plan s (end_of r) t
 ends_on plan s t stop r went is = let p = err_from_is_err_and r is in rw (p.1, p.2) went
 
 -- what was built is the image of the executable
@@ -28,14 +28,14 @@ pub record IsImage (exe : Exe) (built : Built) : Type 0 where
 pub is_image : (exe : Exe) (built : Built) → (let made : Built = record { bytes = image exe; blocks = 0; code = 5 } in let r : Result Built Cause = Ok made in r) ≡ Ok built → IsImage exe built
 is_image exe built h = let same = ok_same _ built h in record { bytes = ap (λ b. b.bytes) same; blocks = ap (λ b. b.blocks) same; code = ap (λ b. b.code) same }
 
-stored_as : (name bytes bytes' line line' : List ℕ) (s t : World) (o : End) → bytes ≡ bytes' → line ≡ line' → Went (Stores name bytes (Ends (Ok (done_with line)))) s o t → Went (Stores name bytes' (Ends (Ok (done_with line')))) s o t
+stored_as : (name bytes bytes' line line' : List ℕ) (s t : World) (o : WorkEnd) → bytes ≡ bytes' → line ≡ line' → Went (Stores name bytes (Ends (Ok (done_with line)))) s o t → Went (Stores name bytes' (Ends (Ok (done_with line')))) s o t
 stored_as name bytes bytes' line line' s t o b l went = rw (← b, ← l) went
 
 same_line : (b b' c c' n n' : ℕ) → b ≡ b' → c ≡ c' → n ≡ n' → built_line b c n ≡ built_line b' c' n'
 same_line b b' c c' n n' eb ec en = ap (λ b. built_line b c n) eb ∙ (ap (λ c. built_line b' c n) ec ∙ ap (λ n. built_line b' c' n) en)
 
 -- the image is stored, and its line is made
-pub stored_image : (name line lent : List ℕ) (exe : Exe) (built : Built) (s t : World) (o : End) → IsImage exe built → lent ≡ built.bytes
+pub stored_image : (name line lent : List ℕ) (exe : Exe) (built : Built) (s t : World) (o : WorkEnd) → IsImage exe built → lent ≡ built.bytes
     → (let r : Result (List ℕ) Cause = Ok (built_line built.blocks built.code (length built.bytes)) in r) ≡ Ok line
     → Went (Stores name lent (Ends (Ok (done_with line)))) s o t → Went (image_part name exe) s o t
 stored_image name line lent exe built s t o is same told went =
@@ -43,7 +43,7 @@ stored_image name line lent exe built s t o is same told went =
     (sym (same_line 0 built.blocks 5 built.code (length (image exe)) (length built.bytes) is.blocks is.code (ap length is.bytes) ∙ ok_same _ line told)) went
 
 -- a trace is stored, whose file was made
-pub stored_trace : (target digest file lent : List ℕ) (es : List Edge) (done : Finished) (s t : World) (o : End)
+pub stored_trace : (target digest file lent : List ℕ) (es : List Edge) (done : Finished) (s t : World) (o : WorkEnd)
     → (let r : Result (List ℕ) Cause = Ok (trace_bytes es digest) in r) ≡ Ok file → lent ≡ file
     → Went (Stores target lent (Ends (Ok done))) s o t → Went (Stores target (trace_bytes es digest) (Ends (Ok done))) s o t
 stored_trace target digest file lent es done s t o written same went =

@@ -1,4 +1,3 @@
-pub mod Plans
 pub mod Fitting
 pub mod Turning
 pub mod Taking
@@ -13,7 +12,6 @@ pub mod MergeMeant
 pub mod ShowMeant
 pub mod Runnings
 pub mod Ends
-pub mod Checking
 pub mod Merging
 pub mod Showing
 pub mod Touring

@@ -10,25 +10,25 @@ use Rattle.elf_read.specs.declared.exe.Exe.{Exe}
 use Rattle.elf_read.specs.declared.exe.Reach.TheVariants.{Original}
 use Rattle.build_core.specs.Image.{image}
 use Rattle.sim_laws.specs.Preserves.{Preserves}
-use Rattle.binrec.specs.Plans.World.{World, on_shelf, on_report}
-use Rattle.binrec.specs.Plans.Texts.{End, end_text, end_status, cause_text, object_text}
-use Rattle.binrec.specs.Plans.Plan.{Ends, Went}
-use Rattle.binrec.specs.Plans.Told.{HasFailed}
-use Rattle.binrec.specs.Plans.Happened.{Tells, Reported, Happened}
+use Rattle.top_plan.specs.World.{World, on_shelf, on_report}
+use Rattle.top_plan.specs.Texts.{WorkEnd, end_text, end_status, cause_text, object_text}
+use Rattle.top_plan.specs.Plan.{Ends, Went}
+use Rattle.top_plan.specs.Expected.{HasFailed}
+use Rattle.top_plan.specs.Happened.{Tells, Reported, Happened}
 use Rattle.word_reader.specs.Words.{Asked, Builds, Traces, Runs, Merges, Shows, Sessions, Demos, command}
 use Rattle.binrec.specs.Words.{built_command, asked_by, first_name}
 use Rattle.binrec.specs.Commands.{built_line, done_with, of_command, plan}
 use Rattle.binrec.specs.Meaning.{Says, Unstored, OnlyUnder, IsStored, Stores, build_status, read_status, MeansBuild, MeansUsage}
-use Rattle.binrec.specs.declared.acts.stop.Stop.TheVariants.{Because, Memory}
-use Rattle.binrec.specs.declared.acts.stop.Cause.TheVariants.{Usage, RefusedWord, Limited}
-use Rattle.binrec.specs.declared.acts.stop.Object.TheVariants as objects
-use Rattle.binrec.specs.declared.acts.stop.Limit.TheVariants as limits
-use Rattle.binrec.proofs.Plans.Told.{told_to}
+use Rattle.top_plan.specs.declared.ends.Halt.TheVariants.{Because, Memory}
+use Rattle.top_plan.specs.declared.ends.Cause.TheVariants.{Usage, RefusedWord, Limited}
+use Rattle.top_plan.specs.declared.ends.Object.TheVariants as objects
+use Rattle.top_plan.specs.declared.ends.Limit.TheVariants as limits
+use Rattle.top_plan.proofs.Followed.{told_to}
 use Rattle.binrec.proofs.Runnings.{run_end, trace_end, merge_end, show_end, not_1}
 use Rattle.binrec.proofs.Courses.{Course, Wants, Misses, Passes, Refuses, Breaks, Keeps, Taken, Holds, course}
 
 -- the report line of an end
-abbrev pub Line : End → StreamView → ℕ → StreamView → Type 0
+abbrev pub Line : WorkEnd → StreamView → ℕ → StreamView → Type 0
 Line o old result new = ((result ≡ 4) × (new ≡ old)) ⊎ Tells (end_text o) (end_status o) old result new
 
 -- the world with another shelf and report
@@ -36,25 +36,25 @@ abbrev pub left_as : World → ShelfView → StreamView → World
 left_as s v r = on_report (on_shelf s v) r
 
 -- an answer that is neither 3 nor 4 is that of the end, and its line was given
-said : (o : End) (old new : StreamView) (result k : ℕ) → Line o old result new → result ≡ k → (k ≡ 3 → ⊥) → (k ≡ 4 → ⊥) → (end_status o ≡ k) × (new.bytes ≡ option_map (λ w. w ++ end_text o) old.bytes)
+said : (o : WorkEnd) (old new : StreamView) (result k : ℕ) → Line o old result new → result ≡ k → (k ≡ 3 → ⊥) → (k ≡ 4 → ⊥) → (end_status o ≡ k) × (new.bytes ≡ option_map (λ w. w ++ end_text o) old.bytes)
 said o old new result k (inl (four, same)) is not_3 not_4 = absurd (not_4 (sym is ∙ four))
 said o old new result k (inr (Ok u, gave, status)) is not_3 not_4 = (sym status ∙ is, gave.gives.0)
 said o old new result k (inr (Err sink_errors.Failed, gave, status)) is not_3 not_4 = absurd (not_3 (sym is ∙ status))
 said o old new result k (inr (Err sink_errors.Memory, gave, status)) is not_3 not_4 = absurd (not_4 (sym is ∙ status))
 
 -- an answer 3 is that of the end, and its line was given, or the report failed
-said_3 : (o : End) (s : World) (v : ShelfView) (new : StreamView) (result : ℕ) → Line o s.report result new → result ≡ 3
+said_3 : (o : WorkEnd) (s : World) (v : ShelfView) (new : StreamView) (result : ℕ) → Line o s.report result new → result ≡ 3
     → HasFailed objects.Report s (left_as s v new) ⊎ ((end_status o ≡ 3) × (new.bytes ≡ option_map (λ w. w ++ end_text o) s.report.bytes))
 said_3 o s v new result (inl (four, same)) is = absurd (let z : 4 ≡ 3 = sym four ∙ is in omega arith)
 said_3 o s v new result (inr (Ok u, gave, status)) is = inr (sym status ∙ is, gave.gives.0)
 said_3 o s v new result (inr (Err sink_errors.Failed, gave, status)) is = inl (record { rose = gave.gives.1; loud = gave.gives.2 })
 said_3 o s v new result (inr (Err sink_errors.Memory, gave, status)) is = absurd (let z : 4 ≡ 3 = sym status ∙ is in omega arith)
 
-line_is : (o x : End) (a b : Option (List ℕ)) → b ≡ option_map (λ w. w ++ end_text o) a → o ≡ x → b ≡ option_map (λ w. w ++ end_text x) a
-line_is o x a b h is = let P : End → Type 0 = λ o. b ≡ option_map (λ w. w ++ end_text o) a in subst P is h
+line_is : (o x : WorkEnd) (a b : Option (List ℕ)) → b ≡ option_map (λ w. w ++ end_text o) a → o ≡ x → b ≡ option_map (λ w. w ++ end_text x) a
+line_is o x a b h is = let P : WorkEnd → Type 0 = λ o. b ≡ option_map (λ w. w ++ end_text o) a in subst P is h
 
 -- the end has another status
-other : {A : Type 0} (o x : End) (k : ℕ) → o ≡ x → end_status o ≡ k → (end_status x ≡ k → ⊥) → A
+other : {A : Type 0} (o x : WorkEnd) (k : ℕ) → o ≡ x → end_status o ≡ k → (end_status x ≡ k → ⊥) → A
 other o x k is h apart = absurd (apart (sym (ap end_status is) ∙ h))
 
 -- the image preserves the behaviour of each original
@@ -74,11 +74,11 @@ kept_image name original content exe files s t law here short accepted stored to
 }
 
 -- the status of an end, and its line
-record Said (o : End) (k : ℕ) (s : World) (r : StreamView) : Type 0 where
+record Said (o : WorkEnd) (k : ℕ) (s : World) (r : StreamView) : Type 0 where
   status : end_status o ≡ k
   line : r.bytes ≡ option_map (λ w. w ++ end_text o) s.report.bytes
 
-done : (name original : List ℕ) (s : World) (o : End) (v : ShelfView) (r : StreamView) → Law → Course name original s.shelf o v → Said o 0 s r
+done : (name original : List ℕ) (s : World) (o : WorkEnd) (v : ShelfView) (r : StreamView) → Law → Course name original s.shelf o v → Said o 0 s r
     → (files : Files) → s.shelf.files ≡ Some files → (stored : IsStored name original files (left_as s v r)) × Says (built_line 0 5 (length (image stored.exe))) s (left_as s v r)
 unfolding kept_image
 done name original s o v r law (Wants m same) z files told = other o _ 0 m z.status (λ h. omega (arith, h))
@@ -90,7 +90,7 @@ done name original s o v r law (Keeps content exe here short accepted stored (in
 done name original s o v r law (Keeps content exe here short accepted stored (inl is)) z files told =
     (kept_image name original content exe files s (left_as s v r) law here short accepted stored told, line_is o (Ok (done_with (built_line 0 5 (length (image exe))))) s.report.bytes r.bytes z.line is)
 
-refused_2 : (name original : List ℕ) (s : World) (o : End) (v : ShelfView) (r : StreamView) → Course name original s.shelf o v → Said o 2 s r
+refused_2 : (name original : List ℕ) (s : World) (o : WorkEnd) (v : ShelfView) (r : StreamView) → Course name original s.shelf o v → Said o 2 s r
     → Unstored s (left_as s v r) × (refused : Refused) × Says (cause_text (RefusedWord 2 refused.number refused.place)) s (left_as s v r) × Holds original (λ content. (length content ≤ 16777216) × (elf Original content ≡ Err refused)) s.shelf.files
 refused_2 name original s o v r (Wants m same) z = other o _ 2 m z.status (λ h. omega (arith, h))
 refused_2 name original s o v r (Misses m same rose absent) z = other o _ 2 m z.status (λ h. omega (arith, h))
@@ -100,7 +100,7 @@ refused_2 name original s o v r (Breaks m same rose loud) z = other o _ 2 m z.st
 refused_2 name original s o v r (Keeps content exe here short accepted stored (inr m)) z = other o _ 2 m z.status (λ h. omega (arith, h))
 refused_2 name original s o v r (Keeps content exe here short accepted stored (inl m)) z = other o _ 2 m z.status (λ h. omega (arith, h))
 
-limit_7 : (name original : List ℕ) (s : World) (o : End) (v : ShelfView) (r : StreamView) → Course name original s.shelf o v → Said o 7 s r
+limit_7 : (name original : List ℕ) (s : World) (o : WorkEnd) (v : ShelfView) (r : StreamView) → Course name original s.shelf o v → Said o 7 s r
     → Unstored s (left_as s v r) × Says (cause_text (Limited (limits.File 16777216))) s (left_as s v r) × Holds original (λ content. 16777216 < length content) s.shelf.files
 limit_7 name original s o v r (Wants m same) z = other o _ 7 m z.status (λ h. omega (arith, h))
 limit_7 name original s o v r (Misses m same rose absent) z = other o _ 7 m z.status (λ h. omega (arith, h))
@@ -115,7 +115,7 @@ record IsNamed (original : List ℕ) (s : World) (v : ShelfView) (r : StreamView
   line : Says (object_text objects.Shelf) s (left_as s v r)
   absent : IsTrue s.shelf.calm → Unstored s (left_as s v r) × IfSome s.shelf.files (λ files. files original ≡ None)
 
-shelf_3 : (name original : List ℕ) (s : World) (o : End) (v : ShelfView) (r : StreamView) → Course name original s.shelf o v → Said o 3 s r → IsNamed original s v r
+shelf_3 : (name original : List ℕ) (s : World) (o : WorkEnd) (v : ShelfView) (r : StreamView) → Course name original s.shelf o v → Said o 3 s r → IsNamed original s v r
 shelf_3 name original s o v r (Wants m same) z = other o _ 3 m z.status (λ h. omega (arith, h))
 shelf_3 name original s o v r (Misses m same rose absent) z = record { line = line_is o _ s.report.bytes r.bytes z.line m; absent = λ calm. (same, absent calm) }
 shelf_3 name original s o v r (Passes m same long) z = other o _ 3 m z.status (λ h. omega (arith, h))
@@ -125,7 +125,7 @@ shelf_3 name original s o v r (Keeps content exe here short accepted stored (inr
 shelf_3 name original s o v r (Keeps content exe here short accepted stored (inl m)) z = other o _ 3 m z.status (λ h. omega (arith, h))
 
 -- no course ends with any other status
-never : (name original : List ℕ) (old : ShelfView) (o : End) (v : ShelfView) (k : ℕ) → Course name original old o v → (0 ≡ k → ⊥) → (2 ≡ k → ⊥) → (3 ≡ k → ⊥) → (4 ≡ k → ⊥) → (7 ≡ k → ⊥) → end_status o ≡ k → ⊥
+never : (name original : List ℕ) (old : ShelfView) (o : WorkEnd) (v : ShelfView) (k : ℕ) → Course name original old o v → (0 ≡ k → ⊥) → (2 ≡ k → ⊥) → (3 ≡ k → ⊥) → (4 ≡ k → ⊥) → (7 ≡ k → ⊥) → end_status o ≡ k → ⊥
 never name original old o v k (Wants m same) n0 n2 n3 n4 n7 z = other o _ k m z n4
 never name original old o v k (Misses m same rose absent) n0 n2 n3 n4 n7 z = other o _ k m z n3
 never name original old o v k (Passes m same long) n0 n2 n3 n4 n7 z = other o _ k m z n7
@@ -139,7 +139,7 @@ record IsLeft (name original : List ℕ) (s t : World) : Type 0 where
   memory : Unstored s t ⊎ (HasFailed objects.Shelf s t ⊎ Stores name original s t)
   others : OnlyUnder name s t
 
-left : (name original : List ℕ) (s : World) (o : End) (v : ShelfView) (r : StreamView) → Law → Course name original s.shelf o v → IsLeft name original s (left_as s v r)
+left : (name original : List ℕ) (s : World) (o : WorkEnd) (v : ShelfView) (r : StreamView) → Law → Course name original s.shelf o v → IsLeft name original s (left_as s v r)
 left name original s o v r law (Wants m same) = record { memory = inl same; others = inl same }
 left name original s o v r law (Misses m same rose absent) = record { memory = inl same; others = inl same }
 left name original s o v r law (Passes m same long) = record { memory = inl same; others = inl same }
@@ -151,10 +151,10 @@ left name original s o v r law (Keeps content exe here short accepted stored end
 }
 
 -- a line that was said, in one record
-so : (o : End) (s : World) (r : StreamView) (result k : ℕ) → Line o s.report result r → result ≡ k → (k ≡ 3 → ⊥) → (k ≡ 4 → ⊥) → Said o k s r
+so : (o : WorkEnd) (s : World) (r : StreamView) (result k : ℕ) → Line o s.report result r → result ≡ k → (k ≡ 3 → ⊥) → (k ≡ 4 → ⊥) → Said o k s r
 so o s r result k line is not_3 not_4 = let h = said o s.report r result k line is not_3 not_4 in record { status = h.0; line = h.1 }
 
-so_3 : (name original : List ℕ) (o : End) (s : World) (v : ShelfView) (r : StreamView) (result : ℕ) → Course name original s.shelf o v → Line o s.report result r → result ≡ 3 → HasFailed objects.Report s (left_as s v r) ⊎ IsNamed original s v r
+so_3 : (name original : List ℕ) (o : WorkEnd) (s : World) (v : ShelfView) (r : StreamView) (result : ℕ) → Course name original s.shelf o v → Line o s.report result r → result ≡ 3 → HasFailed objects.Report s (left_as s v r) ⊎ IsNamed original s v r
 so_3 name original o s v r result c line is = named (said_3 o s v r result line is)
   where
     named : HasFailed objects.Report s (left_as s v r) ⊎ ((end_status o ≡ 3) × (r.bytes ≡ option_map (λ w. w ++ end_text o) s.report.bytes)) → HasFailed objects.Report s (left_as s v r) ⊎ IsNamed original s v r
@@ -165,12 +165,12 @@ right : {A B C : Type 0} → A ⊎ B → (B → C) → A ⊎ C
 right (inl a) f = inl a
 right (inr b) f = inr (f b)
 
-no_guest : (name original : List ℕ) (o : End) (s : World) (v : ShelfView) (r : StreamView) (result : ℕ) → Course name original s.shelf o v → Line o s.report result r → (result ≡ 5) ⊎ (result ≡ 6) → ⊥
+no_guest : (name original : List ℕ) (o : WorkEnd) (s : World) (v : ShelfView) (r : StreamView) (result : ℕ) → Course name original s.shelf o v → Line o s.report result r → (result ≡ 5) ⊎ (result ≡ 6) → ⊥
 no_guest name original o s v r result c line (inl is) = never name original s.shelf o v 5 c (λ h. omega arith) (λ h. omega arith) (λ h. omega arith) (λ h. omega arith) (λ h. omega arith) (so o s r result 5 line is (λ h. omega arith) (λ h. omega arith)).status
 no_guest name original o s v r result c line (inr is) = never name original s.shelf o v 6 c (λ h. omega arith) (λ h. omega arith) (λ h. omega arith) (λ h. omega arith) (λ h. omega arith) (so o s r result 6 line is (λ h. omega arith) (λ h. omega arith)).status
 
 -- the status where the shelf tells its files
-told_status : (name original : List ℕ) (s : World) (o : End) (v : ShelfView) (r : StreamView) (files : Files) → Course name original s.shelf o v → s.shelf.files ≡ Some files
+told_status : (name original : List ℕ) (s : World) (o : WorkEnd) (v : ShelfView) (r : StreamView) (files : Files) → Course name original s.shelf o v → s.shelf.files ≡ Some files
     → (o ≡ Err Memory) ⊎ (HasFailed objects.Shelf s (left_as s v r) ⊎ (end_status o ≡ build_status (files original)))
 told_status name original s o v r files (Wants m same) told = inl m
 told_status name original s o v r files (Misses m same rose absent) told = missed s.shelf.calm refl
@@ -192,7 +192,7 @@ told_status name original s o v r files (Keeps content exe here short accepted s
     inr (inr (ap end_status m ∙ sym (ap build_status there ∙ (cond-true (nat_le (length content) 16777216) _ _ (le-leb (length content) 16777216 short) ∙ ap read_status accepted))))
 
 -- the answer where the shelf tells its files
-answers : (original : List ℕ) (s : World) (o : End) (v : ShelfView) (r : StreamView) (result : ℕ) (files : Files) → Line o s.report result r
+answers : (original : List ℕ) (s : World) (o : WorkEnd) (v : ShelfView) (r : StreamView) (result : ℕ) (files : Files) → Line o s.report result r
     → (o ≡ Err Memory) ⊎ (HasFailed objects.Shelf s (left_as s v r) ⊎ (end_status o ≡ build_status (files original)))
     → (result ≡ 4) ⊎ (HasFailed objects.Shelf s (left_as s v r) ⊎ (HasFailed objects.Report s (left_as s v r) ⊎ (result ≡ build_status (files original))))
 answers original s o v r result files (inl (four, same)) ends = inl four
@@ -202,7 +202,7 @@ answers original s o v r result files (inr (Ok u, gave, status)) (inr (inr is)) 
 answers original s o v r result files (inr (Err sink_errors.Failed, gave, status)) ends = inr (inr (inl (record { rose = gave.gives.1; loud = gave.gives.2 })))
 answers original s o v r result files (inr (Err sink_errors.Memory, gave, status)) ends = inl status
 
-means_course : (name original : List ℕ) (o : End) (s : World) (v : ShelfView) (r : StreamView) (result : ℕ) → Law → Course name original s.shelf o v → Line o s.report result r → MeansBuild name original s result (left_as s v r)
+means_course : (name original : List ℕ) (o : WorkEnd) (s : World) (v : ShelfView) (r : StreamView) (result : ℕ) → Law → Course name original s.shelf o v → Line o s.report result r → MeansBuild name original s result (left_as s v r)
 means_course name original o s v r result law c line = record {
   answers = λ files told. answers original s o v r result files line (told_status name original s o v r files c told);
   done = λ is. done name original s o v r law c (so o s r result 0 line is (λ h. omega arith) (λ h. omega arith));
@@ -219,13 +219,13 @@ means_course name original o s v r result law c line = record {
 }
 
 -- the world after the report
-after_report : (name original : List ℕ) (o : End) (s : World) (v : ShelfView) (result : ℕ) (t : World) → Law → Course name original s.shelf o v → Reported o (on_shelf s v) result t → MeansBuild name original s result t
+after_report : (name original : List ℕ) (o : WorkEnd) (s : World) (v : ShelfView) (result : ℕ) (t : World) → Law → Course name original s.shelf o v → Reported o (on_shelf s v) result t → MeansBuild name original s result t
 after_report name original o s v result t law c (inl (four, same)) =
     let P : World → Type 0 = λ t. MeansBuild name original s result t in subst P (sym same) (means_course name original o s v s.report result law c (inl (four, refl)))
 after_report name original o s v result t law c (inr (r, told, same)) =
     let P : World → Type 0 = λ t. MeansBuild name original s result t in subst P (sym same) (means_course name original o s v r result law c (inr told))
 
-taken : (name original : List ℕ) (o : End) (s m : World) (result : ℕ) (t : World) → Law → Taken name original s o m → Reported o m result t → MeansBuild name original s result t
+taken : (name original : List ℕ) (o : WorkEnd) (s m : World) (result : ℕ) (t : World) → Law → Taken name original s o m → Reported o m result t → MeansBuild name original s result t
 taken name original o s m result t law (v, same, c) reported =
     let P : World → Type 0 = λ m. Reported o m result t in after_report name original o s v result t law c (subst P same reported)
 
@@ -238,7 +238,7 @@ means_build words name original s result t law (o, m, went, reported) asked =
 -- ---- words that are no command
 
 -- the end of words that are no command
-usage_end : (at : ℕ) (s : World) (o : End) (m : World) → Went (Ends (Err (Usage at))) s o m → (m ≡ s) × ((o ≡ Err Memory) ⊎ (o ≡ Err (Because (Usage at))))
+usage_end : (at : ℕ) (s : World) (o : WorkEnd) (m : World) → Went (Ends (Err (Usage at))) s o m → (m ≡ s) × ((o ≡ Err Memory) ⊎ (o ≡ Err (Because (Usage at))))
 unfolding Went
 usage_end at s o m (inl (memory, same)) = (same, inl memory)
 usage_end at s o m (inr (is, same)) = (same, inr is)
@@ -249,13 +249,13 @@ pub record IsUsage (at : ℕ) (s : World) (result : ℕ) (t : World) : Type 0 wh
   pub line : result ≡ 1 → Says (cause_text (Usage at)) s t
   pub alone : (t.shelf ≡ s.shelf) × (t.input ≡ s.input) × (t.out ≡ s.out)
 
-usage_told : (at : ℕ) (s : World) (o : End) (result : ℕ) (r : StreamView) → (o ≡ Err Memory) ⊎ (o ≡ Err (Because (Usage at))) → Tells (end_text o) (end_status o) s.report result r → IsUsage at s result (on_report s r)
+usage_told : (at : ℕ) (s : World) (o : WorkEnd) (result : ℕ) (r : StreamView) → (o ≡ Err Memory) ⊎ (o ≡ Err (Because (Usage at))) → Tells (end_text o) (end_status o) s.report result r → IsUsage at s result (on_report s r)
 usage_told at s o result r (inl m) (Ok u, gave, status) = record { status = inr (inl (status ∙ ap end_status m)); line = λ is. absurd (let z : 4 ≡ 1 = sym (status ∙ ap end_status m) ∙ is in omega arith); alone = (refl, refl, refl) }
 usage_told at s o result r (inr m) (Ok u, gave, status) = record { status = inl (status ∙ ap end_status m); line = λ is. line_is o (Err (Because (Usage at))) s.report.bytes r.bytes gave.gives.0 m; alone = (refl, refl, refl) }
 usage_told at s o result r m (Err sink_errors.Failed, gave, status) = record { status = inr (inr (status, record { rose = gave.gives.1; loud = gave.gives.2 })); line = λ is. absurd (let z : 3 ≡ 1 = sym status ∙ is in omega arith); alone = (refl, refl, refl) }
 usage_told at s o result r m (Err sink_errors.Memory, gave, status) = record { status = inr (inl status); line = λ is. absurd (let z : 4 ≡ 1 = sym status ∙ is in omega arith); alone = (refl, refl, refl) }
 
-usage_reported : (at : ℕ) (s : World) (o : End) (result : ℕ) (t : World) → (o ≡ Err Memory) ⊎ (o ≡ Err (Because (Usage at))) → Reported o s result t → IsUsage at s result t
+usage_reported : (at : ℕ) (s : World) (o : WorkEnd) (result : ℕ) (t : World) → (o ≡ Err Memory) ⊎ (o ≡ Err (Because (Usage at))) → Reported o s result t → IsUsage at s result t
 usage_reported at s o result t is (inl (four, same)) =
     let P : World → Type 0 = λ t. IsUsage at s result t in
     subst P (sym same) (record { status = inr (inl four); line = λ one. absurd (let z : 4 ≡ 1 = sym four ∙ one in omega arith); alone = (refl, refl, refl) })

@@ -5,18 +5,18 @@ use Rattle.trace_file.specs.Edges.{Edge, union_of}
 use Rattle.trace_file.specs.Trace.{trace_bytes}
 use Rattle.word_reader.specs.Words.{Asked, Merges}
 use Rattle.binrec.specs.Words.{asked_by, first_name}
-use Rattle.binrec.specs.Plans.World.{World}
-use Rattle.binrec.specs.Plans.Plan.{Ends, Stores}
-use Rattle.binrec.specs.Plans.Parts.{checked}
-use Rattle.binrec.specs.Plans.Happened.{Happened}
-use Rattle.binrec.specs.Plans.Told.{expected, NoInput, IsExact}
+use Rattle.top_plan.specs.World.{World}
+use Rattle.top_plan.specs.Plan.{Ends, Stores}
+use Rattle.top_plan.specs.Parts.{checked}
+use Rattle.top_plan.specs.Happened.{Happened}
+use Rattle.top_plan.specs.Expected.{expected, NoInput, IsExact}
 use Rattle.binrec.specs.Commands.{done_with, merged_line, store_part, union_part, merge_plan, of_command, plan}
 use Rattle.binrec.specs.Meaning.{HasStored, MergesUnion, MeansMerge}
-use Rattle.binrec.specs.declared.acts.stop.Stop.TheVariants.{Because}
-use Rattle.binrec.specs.declared.acts.stop.Cause.{Cause}
-use Rattle.binrec.specs.declared.acts.stop.Cause.TheVariants.{Limited}
-use Rattle.binrec.specs.declared.acts.stop.Limit.TheVariants as limits
-use Rattle.binrec.proofs.Plans.Steps.{nothing}
+use Rattle.top_plan.specs.declared.ends.Halt.TheVariants.{Because}
+use Rattle.top_plan.specs.declared.ends.Cause.{Cause}
+use Rattle.top_plan.specs.declared.ends.Cause.TheVariants.{Limited}
+use Rattle.top_plan.specs.declared.ends.Limit.TheVariants as limits
+use Rattle.top_plan.proofs.Kept.{nothing}
 use Rattle.binrec.proofs.Untaken.{untaken, merge_quiet}
 use Rattle.binrec.proofs.Reading.{IsQuiet, Did, chosen, says, reading_means}
 

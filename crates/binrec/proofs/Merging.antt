@@ -4,14 +4,14 @@ use Rattle.std.proofs.lemmas.List.{append-nil, drop_more, drop_all}
 use Rattle.std.proofs.lemmas.List.Sums.{sum_by_push}
 use Rattle.trace_file.specs.Edges.{Edge, pairs}
 use Rattle.trace_file.specs.Trace.{trace_bytes}
-use Rattle.binrec.specs.Plans.World.{World}
-use Rattle.binrec.specs.Plans.Texts.{End}
-use Rattle.binrec.specs.Plans.Plan.{Plan, Ends, Stores, Went}
+use Rattle.top_plan.specs.World.{World}
+use Rattle.top_plan.specs.Texts.{WorkEnd}
+use Rattle.top_plan.specs.Plan.{Plan, Ends, Stores, Went}
 use Rattle.binrec.specs.Traces.{trace_part, traces_part}
 use Rattle.binrec.specs.Commands.{store_part, merged_line, done_with}
-use Rattle.binrec.specs.declared.acts.stop.Stop.{Stop}
-use Rattle.binrec.specs.declared.acts.stop.Cause.{Cause}
-use Rattle.binrec.proofs.Plans.Runs.{ok_same}
+use Rattle.top_plan.specs.declared.ends.Halt.{Halt}
+use Rattle.top_plan.specs.declared.ends.Cause.{Cause}
+use Rattle.top_plan.proofs.Passes.{ok_same}
 use Rattle.binrec.proofs.Ends.{stored_trace}
 
 -- the name at an index, and those behind it
@@ -33,23 +33,23 @@ joined : (next : Next) (done : List (List Edge)) (es : List Edge) → (let f : N
 joined next done es = simp append_assoc
 
 -- nothing but what is there
-pub traces_begin : (digest : List ℕ) (names : List (List ℕ)) (word before : ℕ) (done : List (List Edge)) (next : List (List Edge) → Plan) (s : World) (o : End) (u : World)
+pub traces_begin : (digest : List ℕ) (names : List (List ℕ)) (word before : ℕ) (done : List (List Edge)) (next : List (List Edge) → Plan) (s : World) (o : WorkEnd) (u : World)
     → done ≡ [] → Went (traces_part digest names word before (λ rest. next (done ++ rest))) s o u → Went (traces_part digest names word before next) s o u
 traces_begin digest names word before done next s o u is went =
     let P : List (List Edge) → Type 0 = λ done. Went (traces_part digest names word before (λ rest. next (done ++ rest))) s o u in
     subst P is went
 
 -- what is there with one more trace
-pub with_trace : (digest : List ℕ) (names : List (List ℕ)) (word before : ℕ) (done done' : List (List Edge)) (next : List (List Edge) → Plan) (s : World) (o : End) (u : World)
+pub with_trace : (digest : List ℕ) (names : List (List ℕ)) (word before : ℕ) (done done' : List (List Edge)) (next : List (List Edge) → Plan) (s : World) (o : WorkEnd) (u : World)
     → done' ≡ done → Went (traces_part digest names word before (λ rest. next (done' ++ rest))) s o u → Went (traces_part digest names word before (λ rest. next (done ++ rest))) s o u
 with_trace digest names word before done done' next s o u is went =
     let P : List (List Edge) → Type 0 = λ done. Went (traces_part digest names word before (λ rest. next (done ++ rest))) s o u in
     subst P is went
 
 -- the first of the names is fetched, and the rest follow
-pub traces_on : (digest : List ℕ) (names more : List (List ℕ)) (word before word' before' : ℕ) (name : List ℕ) (es : List Edge) (done : List (List Edge)) (next : List (List Edge) → Plan) (s t : World) (o : End) (u : World)
+pub traces_on : (digest : List ℕ) (names more : List (List ℕ)) (word before word' before' : ℕ) (name : List ℕ) (es : List Edge) (done : List (List Edge)) (next : List (List Edge) → Plan) (s t : World) (o : WorkEnd) (u : World)
     → names ≡ name ∷ more → word' ≡ word + 1 → before' ≡ before + length es
-    → ((next : List Edge → Plan) (o : End) (u : World) → Went (next es) t o u → Went (trace_part digest name word before next) s o u)
+    → ((next : List Edge → Plan) (o : WorkEnd) (u : World) → Went (next es) t o u → Went (trace_part digest name word before next) s o u)
     → Went (traces_part digest more word' before' (λ rest. next ((done ++ es ∷ []) ++ rest))) t o u
     → Went (traces_part digest names word before (λ rest. next (done ++ rest))) s o u
 unfolding traces_part
@@ -61,7 +61,7 @@ traces_on digest names more word before word' before' name es done next s t o u 
     subst P (sym is) (first (λ es. traces_part digest more (word + 1) (before + length es) (λ rest. next (done ++ (es ∷ rest)))) o u (subst N (joined next done es) (subst B is-before (subst W is-word went))))
 
 -- the first of the names is not fetched
-pub traces_fail : (digest : List ℕ) (names more : List (List ℕ)) (word before : ℕ) (name : List ℕ) (stop : Stop) (next : List (List Edge) → Plan) (s t : World)
+pub traces_fail : (digest : List ℕ) (names more : List (List ℕ)) (word before : ℕ) (name : List ℕ) (stop : Halt) (next : List (List Edge) → Plan) (s t : World)
     → names ≡ name ∷ more
     → ((next : List Edge → Plan) → Went (trace_part digest name word before next) s (Err stop) t)
     → Went (traces_part digest names word before next) s (Err stop) t
@@ -71,7 +71,7 @@ traces_fail digest names more word before name stop next s t is first =
     subst P (sym is) (first (λ es. traces_part digest more (word + 1) (before + length es) (λ rest. next (es ∷ rest))))
 
 -- no names are left
-pub traces_done : (digest : List ℕ) (names : List (List ℕ)) (word before : ℕ) (done : List (List Edge)) (next : List (List Edge) → Plan) (s : World) (o : End) (u : World)
+pub traces_done : (digest : List ℕ) (names : List (List ℕ)) (word before : ℕ) (done : List (List Edge)) (next : List (List Edge) → Plan) (s : World) (o : WorkEnd) (u : World)
     → names ≡ [] → Went (next done) s o u → Went (traces_part digest names word before (λ rest. next (done ++ rest))) s o u
 unfolding traces_part
 traces_done digest names word before done next s o u is went =
@@ -80,7 +80,7 @@ traces_done digest names word before done next s o u is went =
     subst P (sym is) (subst Q (sym (append-nil done)) went)
 
 -- a union is stored, and its line is made
-pub stored_union : (target digest file lent line : List ℕ) (es : List Edge) (count : ℕ) (s t : World) (o : End)
+pub stored_union : (target digest file lent line : List ℕ) (es : List Edge) (count : ℕ) (s t : World) (o : WorkEnd)
     → (let r : Result (List ℕ) Cause = Ok (trace_bytes es digest) in r) ≡ Ok file → lent ≡ file → count ≡ length es
     → (let r : Result (List ℕ) Cause = Ok (merged_line count) in r) ≡ Ok line
     → Went (Stores target lent (Ends (Ok (done_with line)))) s o t → Went (store_part target digest es) s o t

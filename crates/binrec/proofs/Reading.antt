@@ -10,19 +10,19 @@ use Rattle.sha2.specs.Sha256.{sha256}
 use Rattle.trace_file.specs.Edges.{Edge}
 use Rattle.trace_file.specs.Trace.{trace}
 use Rattle.trace_file.specs.Trace as trace_file
-use Rattle.binrec.specs.Plans.World.{World}
-use Rattle.binrec.specs.Plans.Texts.{stop_text, stop_status}
-use Rattle.binrec.specs.Plans.Plan.{Plan}
-use Rattle.binrec.specs.Plans.Parts.{checked}
-use Rattle.binrec.specs.Plans.Told.{ends_with, after_fetch, expected, IsWhole, Decided}
+use Rattle.top_plan.specs.World.{World}
+use Rattle.top_plan.specs.Texts.{halt_text, halt_status}
+use Rattle.top_plan.specs.Plan.{Plan}
+use Rattle.top_plan.specs.Parts.{checked}
+use Rattle.top_plan.specs.Expected.{ends_with, after_fetch, expected, IsWhole, Decided}
 use Rattle.binrec.specs.Traces.{of_word, with_digest, edges_of_word, counted, subject_part, traces_part}
 use Rattle.binrec.specs.Meaning.{OnlySays, ReadsEdges, ReadsTrace, ReadsTraces, ReadsExe, ReadsContent, UnlessBroken}
-use Rattle.binrec.specs.declared.acts.stop.Stop.{Stop}
-use Rattle.binrec.specs.declared.acts.stop.Stop.TheVariants.{Because, Outside}
-use Rattle.binrec.specs.declared.acts.stop.Cause.{Cause}
-use Rattle.binrec.specs.declared.acts.stop.Cause.TheVariants.{RefusedWord, Limited}
-use Rattle.binrec.specs.declared.acts.stop.Object.TheVariants as objects
-use Rattle.binrec.specs.declared.acts.stop.Limit.TheVariants as limits
+use Rattle.top_plan.specs.declared.ends.Halt.{Halt}
+use Rattle.top_plan.specs.declared.ends.Halt.TheVariants.{Because, Outside}
+use Rattle.top_plan.specs.declared.ends.Cause.{Cause}
+use Rattle.top_plan.specs.declared.ends.Cause.TheVariants.{RefusedWord, Limited}
+use Rattle.top_plan.specs.declared.ends.Object.TheVariants as objects
+use Rattle.top_plan.specs.declared.ends.Limit.TheVariants as limits
 use Rattle.binrec.specs.declared.commands.original.Subject.{Subject}
 use Rattle.binrec.proofs.RunMeant.{only_says}
 
@@ -43,7 +43,7 @@ Did p files s result t = IsWhole files [] (expected p files []) s result t
 pub chosen : {X : Type 0} (P : X → Type 0) (n limit : ℕ) (a b : X) → P (cond (nat_le n limit) a b) → (n ≤ limit → P a) × (limit < n → P b)
 chosen P n limit a b h = (λ few. subst P (cond-true (nat_le n limit) a b (le-leb n limit few)) h, λ many. subst P (cond-false (nat_le n limit) a b (lt-leb n limit many)) h)
 
-pub says : (stop : Stop) (files : Files) (s : World) (result : ℕ) (t : World) → IsQuiet files s t → IsWhole files [] (ends_with (Err stop) files []) s result t → OnlySays (stop_status stop) (stop_text stop) s result t
+pub says : (stop : Halt) (files : Files) (s : World) (result : ℕ) (t : World) → IsQuiet files s t → IsWhole files [] (ends_with (Err stop) files []) s result t → OnlySays (halt_status stop) (halt_text stop) s result t
 says stop files s result t h w = only_says stop files [] s result t h.told h.input w
 
 -- what follows a trace means this

@@ -13,27 +13,27 @@ use Rattle.run_model.specs.Run.{run}
 use Rattle.guest_run.specs.Guest.{beginning, ahead, while_running, steps_taken, undefined_taken}
 use Rattle.word_reader.specs.Words.{Asked, Runs}
 use Rattle.binrec.specs.Words.{asked_by, first_name}
-use Rattle.binrec.specs.Plans.World.{World}
-use Rattle.binrec.specs.Plans.Texts.{End, end_text, stop_text, stop_status}
-use Rattle.binrec.specs.Plans.Parts.{checked}
-use Rattle.binrec.specs.Plans.Told.{Store, Ending, ends_with, after_fetch, expected, LeavesBut, HasFailed, IsWhole, Decided, IsExact}
+use Rattle.top_plan.specs.World.{World}
+use Rattle.top_plan.specs.Texts.{WorkEnd, end_text, halt_text, halt_status}
+use Rattle.top_plan.specs.Parts.{checked}
+use Rattle.top_plan.specs.Expected.{Store, Ending, ends_with, after_fetch, expected, LeavesBut, HasFailed, IsWhole, Decided, IsExact}
 use Rattle.binrec.specs.Guests.{last_line, guest_plan, finished}
 use Rattle.binrec.specs.Traces.{of_word}
 use Rattle.binrec.specs.Commands.{run_plan, of_command, plan}
 use Rattle.binrec.specs.Meaning.{HasRun, OnlySays, RunsRead, RunsContent, MeansRun}
 use Rattle.binrec.specs.TraceMeaning.{HasShown}
-use Rattle.binrec.specs.declared.acts.stop.Stop.{Stop as Why}
-use Rattle.binrec.specs.declared.acts.stop.Stop.TheVariants.{Because, Outside}
-use Rattle.binrec.specs.declared.acts.stop.Cause.TheVariants.{RefusedWord, Limited}
-use Rattle.binrec.specs.declared.acts.stop.Object.{Object}
-use Rattle.binrec.specs.declared.acts.stop.Object.TheVariants as objects
-use Rattle.binrec.specs.declared.acts.stop.Limit.TheVariants as limits
-use Rattle.binrec.proofs.Plans.Steps.{nothing}
+use Rattle.top_plan.specs.declared.ends.Halt.{Halt}
+use Rattle.top_plan.specs.declared.ends.Halt.TheVariants.{Because, Outside}
+use Rattle.top_plan.specs.declared.ends.Cause.TheVariants.{RefusedWord, Limited}
+use Rattle.top_plan.specs.declared.ends.Object.{Object}
+use Rattle.top_plan.specs.declared.ends.Object.TheVariants as objects
+use Rattle.top_plan.specs.declared.ends.Limit.TheVariants as limits
+use Rattle.top_plan.proofs.Kept.{nothing}
 use Rattle.binrec.proofs.Ending.{shown_before, ran_before, guest_rest, ends_as}
 
 -- the work ended with a stop, and nothing else was done
-pub only_says : (stop : Why) (files : Files) (left : List ℕ) (s : World) (result : ℕ) (t : World) → s.shelf.files ≡ Some files → t.input.bytes ≡ s.input.bytes
-    → IsWhole files left (ends_with (Err stop) files left) s result t → OnlySays (stop_status stop) (stop_text stop) s result t
+pub only_says : (stop : Halt) (files : Files) (left : List ℕ) (s : World) (result : ℕ) (t : World) → s.shelf.files ≡ Some files → t.input.bytes ≡ s.input.bytes
+    → IsWhole files left (ends_with (Err stop) files left) s result t → OnlySays (halt_status stop) (halt_text stop) s result t
 only_says stop files left s result t told same w = record {
   status = w.status;
   report = w.report;
@@ -43,8 +43,8 @@ only_says stop files left s result t told same w = record {
 }
 
 -- the work ended before the guest was beginning
-pub not_begun : (stop : Why) (files : Files) (left : List ℕ) (s : World) (result : ℕ) (t : World) → s.shelf.files ≡ Some files → s.input.bytes ≡ Some left
-    → IsWhole files left (ends_with (Err stop) files left) s result t → OnlySays (stop_status stop) (stop_text stop) s result t
+pub not_begun : (stop : Halt) (files : Files) (left : List ℕ) (s : World) (result : ℕ) (t : World) → s.shelf.files ≡ Some files → s.input.bytes ≡ Some left
+    → IsWhole files left (ends_with (Err stop) files left) s result t → OnlySays (halt_status stop) (halt_text stop) s result t
 not_begun stop files left s result t told has w =
     let h : LeavesBut 0 left t.input.bytes = w.input has in
     let none : h.0 ≡ 0 = omega (arith, h.1) in
@@ -56,7 +56,7 @@ while_le (Exited n) k = omega arith
 while_le (Faulted f) k = omega arith
 
 -- the steps up to a state have shown what they did, and then a line was reported
-pub has_shown : (x : RunState) (u : State) (stored : List Store) (end : End) (files files' : Files) (left : List ℕ) (s : World) (result : ℕ) (t : World) → s.input.bytes ≡ Some left
+pub has_shown : (x : RunState) (u : State) (stored : List Store) (end : WorkEnd) (files files' : Files) (left : List ℕ) (s : World) (result : ℕ) (t : World) → s.input.bytes ≡ Some left
     → IsWhole files left (shown_before u (while_running x (ahead u) 0) (record (ends_with end files' u.input) { stored = stored })) s result t → HasShown u (end_text end) s t
 has_shown x u stored end files files' left s result t has w =
     let i = w.input has in

@@ -15,26 +15,27 @@ use Rattle.flow_graph.specs.Made.{graph_of}
 use Rattle.guest_run.specs.Guest.{GuestView, beginning, while_running, stop_of}
 use Rattle.tracer.specs.declared.answers.Traced.{Traced}
 use Rattle.tracer.specs.Tour.{entry_edge, traced, with_step, edge_limit}
-use Rattle.binrec.specs.Plans.World.{World, on_shelf, on_out}
-use Rattle.binrec.specs.Plans.Texts.{Finished, End, end_status, finish_status, cause_status}
-use Rattle.binrec.specs.Plans.Plan.{Plan, Ends, Fetches, Stores, Prints, Turned, Turns, Went, GoesOn, FailsInput, FailsOutput, FailsReport, WantsMemory}
-use Rattle.binrec.specs.Plans.Parts.{checked}
-use Rattle.binrec.specs.Plans.Happened.{Reported}
+use Rattle.top_plan.specs.World.{World, on_shelf, on_out}
+use Rattle.top_plan.specs.Texts.{Finished, WorkEnd, end_status, finish_status, cause_status}
+use Rattle.top_plan.specs.Plan.{Plan, Ends, Fetches, Stores, Prints, Turned, Turns, Went, GoesOn, FailsInput, FailsOutput, FailsReport, WantsMemory}
+use Rattle.top_plan.specs.Parts.{checked}
+use Rattle.top_plan.specs.Happened.{Reported}
 use Rattle.binrec.specs.Guests.{guest_plan, next_guest, next_turn, stands, finish_of, finished}
 use Rattle.binrec.specs.Tours.{traced_as, unless_full, tour_plan}
 use Rattle.binrec.specs.Traces.{of_word, with_digest, edges_of_word, counted, subject_part, traces_part, limited}
-use Rattle.binrec.specs.Listings.{listing, limited_graph, shown_line, prints, listing_part}
+use Rattle.binrec.specs.Listings.{listing, limited_graph, shown_line, listing_part}
+use Rattle.top_plan.specs.Parts.{prints}
 use Rattle.binrec.specs.Commands.{run_plan, traced_part, trace_plan, done_with, merged_line, store_part, union_part, merge_plan, show_plan}
-use Rattle.binrec.specs.declared.acts.stop.Cause.{Cause}
-use Rattle.binrec.specs.declared.acts.stop.Cause.TheVariants.{Limited}
-use Rattle.binrec.specs.declared.acts.stop.Limit.TheVariants as limits
+use Rattle.top_plan.specs.declared.ends.Cause.{Cause}
+use Rattle.top_plan.specs.declared.ends.Cause.TheVariants.{Limited}
+use Rattle.top_plan.specs.declared.ends.Limit.TheVariants as limits
 use Rattle.binrec.specs.declared.commands.original.Subject.{Subject}
 
 -- no usage
-abbrev pub NoUsage : End → Type 0
+abbrev pub NoUsage : WorkEnd → Type 0
 NoUsage o = end_status o ≡ 1 → ⊥
 
-ends_so : (o e : End) → o ≡ e → NoUsage e → NoUsage o
+ends_so : (o e : WorkEnd) → o ≡ e → NoUsage e → NoUsage o
 ends_so o e is h = subst NoUsage (sym is) h
 
 finish_so : (x : RunState) → finish_status (finish_of x) ≡ 1 → ⊥
@@ -43,7 +44,7 @@ finish_so (Exited n) h = omega (arith, h)
 finish_so (Faulted f) h = omega (arith, h)
 
 abbrev EndsSo : Plan → Type 0
-EndsSo p = (s : World) (o : End) (t : World) → Went p s o t → NoUsage o
+EndsSo p = (s : World) (o : WorkEnd) (t : World) → Went p s o t → NoUsage o
 
 end_end : (done : Finished) → NoUsage (Ok done) → EndsSo (Ends (Ok done))
 unfolding Went
@@ -185,7 +186,7 @@ pub show_end : (original : List ℕ) (names : List (List ℕ)) → EndsSo (show_
 show_end original names = reading_end original names 1 _
     (λ subject traces. let g = graph_of subject.exe (union_of traces) in checked_end (limited_graph g) (listing_part subject.exe) (graph_passes g) (listing_end subject.exe))
 
-pub not_1 : (o : End) (m : World) (result : ℕ) (t : World) → NoUsage o → Reported o m result t → result ≡ 1 → ⊥
+pub not_1 : (o : WorkEnd) (m : World) (result : ℕ) (t : World) → NoUsage o → Reported o m result t → result ≡ 1 → ⊥
 not_1 o m result t apart (inl four) one = let z : 4 ≡ 1 = sym four.0 ∙ one in omega (arith, z)
 not_1 o m result t apart (inr (v, (Ok u, gave, is), same)) one = apart (sym is ∙ one)
 not_1 o m result t apart (inr (v, (Err sink_errors.Failed, gave, is), same)) one = let z : 3 ≡ 1 = sym is ∙ one in omega (arith, z)

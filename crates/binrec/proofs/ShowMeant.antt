@@ -9,18 +9,19 @@ use Rattle.flow_graph.specs.Graph.{Node}
 use Rattle.flow_graph.specs.Made.{graph_of}
 use Rattle.word_reader.specs.Words.{Asked, Shows}
 use Rattle.binrec.specs.Words.{asked_by, first_name}
-use Rattle.binrec.specs.Plans.World.{World}
-use Rattle.binrec.specs.Plans.Plan.{Ends}
-use Rattle.binrec.specs.Plans.Parts.{checked}
-use Rattle.binrec.specs.Plans.Happened.{Happened}
-use Rattle.binrec.specs.Plans.Told.{expected, NoInput, IsExact}
-use Rattle.binrec.specs.Listings.{listing, limited_graph, shown_line, shown_as, prints, listing_part}
+use Rattle.top_plan.specs.World.{World}
+use Rattle.top_plan.specs.Plan.{Ends}
+use Rattle.top_plan.specs.Parts.{checked}
+use Rattle.top_plan.specs.Happened.{Happened}
+use Rattle.top_plan.specs.Expected.{expected, NoInput, IsExact}
+use Rattle.binrec.specs.Listings.{listing, limited_graph, shown_line, shown_as, listing_part}
+use Rattle.top_plan.specs.Parts.{prints}
 use Rattle.binrec.specs.Commands.{show_plan, of_command, plan}
 use Rattle.binrec.specs.Meaning.{HasPrinted, ShowsGraph, MeansShow}
-use Rattle.binrec.specs.declared.acts.stop.Stop.TheVariants.{Because}
-use Rattle.binrec.specs.declared.acts.stop.Cause.{Cause}
-use Rattle.binrec.specs.declared.acts.stop.Cause.TheVariants.{Limited}
-use Rattle.binrec.specs.declared.acts.stop.Limit.TheVariants as limits
+use Rattle.top_plan.specs.declared.ends.Halt.TheVariants.{Because}
+use Rattle.top_plan.specs.declared.ends.Cause.{Cause}
+use Rattle.top_plan.specs.declared.ends.Cause.TheVariants.{Limited}
+use Rattle.top_plan.specs.declared.ends.Limit.TheVariants as limits
 use Rattle.binrec.proofs.Untaken.{untaken, show_quiet}
 use Rattle.binrec.proofs.Reading.{IsQuiet, Did, chosen, says, reading_means}
 

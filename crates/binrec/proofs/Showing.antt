@@ -7,15 +7,16 @@ use Rattle.elf_read.specs.Elf.{IsGuest}
 use Rattle.trace_file.specs.Edges.{Edge}
 use Rattle.flow_graph.specs.Graph.{Node, counting, IsGraph}
 use Rattle.flow_graph.specs.Made.{graph_of, OneGraph}
-use Rattle.binrec.specs.Plans.World.{World}
-use Rattle.binrec.specs.Plans.Texts.{End}
-use Rattle.binrec.specs.Plans.Plan.{Plan, Ends, Prints, Went}
-use Rattle.binrec.specs.Listings.{listing, limited_graph, shown_line, listing_part, prints}
+use Rattle.top_plan.specs.World.{World}
+use Rattle.top_plan.specs.Texts.{WorkEnd}
+use Rattle.top_plan.specs.Plan.{Plan, Ends, Prints, Went}
+use Rattle.binrec.specs.Listings.{listing, limited_graph, shown_line, listing_part}
+use Rattle.top_plan.specs.Parts.{prints}
 use Rattle.binrec.specs.Commands.{done_with}
-use Rattle.binrec.specs.declared.acts.stop.Cause.{Cause}
-use Rattle.binrec.specs.declared.acts.stop.Cause.TheVariants.{Limited}
-use Rattle.binrec.specs.declared.acts.stop.Limit.TheVariants as limits
-use Rattle.binrec.proofs.Plans.Runs.{ok_same}
+use Rattle.top_plan.specs.declared.ends.Cause.{Cause}
+use Rattle.top_plan.specs.declared.ends.Cause.TheVariants.{Limited}
+use Rattle.top_plan.specs.declared.ends.Limit.TheVariants as limits
+use Rattle.top_plan.proofs.Passes.{ok_same}
 
 -- a graph of few blocks is the only one, and passes
 passes_limit : (g : List Node) → length g ≤ 65536 → limited_graph g ≡ Ok g
@@ -29,13 +30,8 @@ is_limited exe edges es g one guest is graph few =
     ∙ ap limited_graph (sym (one.only exe es g guest graph))
     ∙ passes_limit g few
 
--- a text is printed
-pub prints_some : (text : List ℕ) (next : Plan) (s : World) (o : End) (t : World) → (length text == 0) ≡ false → Went (Prints text next) s o t → Went (prints text next) s o t
-prints_some [] next s o t some went = absurd (let z : true ≡ false = some in cc)
-prints_some (b ∷ bs) next s o t some went = went
-
 -- a listing is printed, and its line is made
-pub shown : (exe : Exe) (g : List Node) (text lent line : List ℕ) (count : ℕ) (s t : World) (o : End)
+pub shown : (exe : Exe) (g : List Node) (text lent line : List ℕ) (count : ℕ) (s t : World) (o : WorkEnd)
     → (let r : Result (List ℕ) Cause = Ok (listing exe g) in r) ≡ Ok text → lent ≡ text → count ≡ length g
     → (let r : Result (List ℕ) Cause = Ok (shown_line count) in r) ≡ Ok line
     → Went (prints lent (Ends (Ok (done_with line)))) s o t → Went (listing_part exe g) s o t

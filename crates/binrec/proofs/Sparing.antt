@@ -10,21 +10,22 @@ use Rattle.guest_sys.specs.Calls.{spare}
 use Rattle.guest_run.specs.Guest.{GuestView, beginning, while_running, asks_next}
 use Rattle.word_reader.specs.Words.{Asked, Builds, Traces, Runs, Merges, Shows, Sessions, Demos}
 use Rattle.binrec.specs.Words.{asked_by, first_name}
-use Rattle.binrec.specs.Plans.Plan.{Plan, Ends, Turned, Turns}
-use Rattle.binrec.specs.Plans.Parts.{checked}
-use Rattle.binrec.specs.Plans.Told.{NoInput, AllTurns, IsSparing}
-use Rattle.binrec.specs.Plans.Partial.{IsTaking}
+use Rattle.top_plan.specs.Plan.{Plan, Ends, Turned, Turns}
+use Rattle.top_plan.specs.Parts.{checked}
+use Rattle.top_plan.specs.Expected.{NoInput, AllTurns, IsSparing}
+use Rattle.top_plan.specs.Partial.{IsTaking}
 use Rattle.binrec.specs.Guests.{guest_plan, next_guest, next_turn, stands}
 use Rattle.trace_file.specs.Edges.{Edge, union_of}
 use Rattle.trace_file.specs.Trace.{trace}
 use Rattle.binrec.specs.Traces.{of_word, with_digest, edges_of_word, counted, subject_part, traces_part, limited}
 use Rattle.flow_graph.specs.Made.{graph_of}
-use Rattle.binrec.specs.Listings.{listing, limited_graph, shown_as, prints, listing_part}
+use Rattle.binrec.specs.Listings.{listing, limited_graph, shown_as, listing_part}
+use Rattle.top_plan.specs.Parts.{prints}
 use Rattle.tracer.specs.declared.answers.Traced.{Traced}
 use Rattle.tracer.specs.Tour.{traced, with_step, edge_limit, entry_edge}
 use Rattle.binrec.specs.Tours.{tour_plan, unless_full}
 use Rattle.binrec.specs.Commands.{image_part, traced_part, trace_plan, merge_plan, show_plan, of_command, plan}
-use Rattle.binrec.specs.declared.acts.stop.Cause.{Cause}
+use Rattle.top_plan.specs.declared.ends.Cause.{Cause}
 use Rattle.binrec.specs.declared.commands.original.Subject.{Subject}
 use Rattle.binrec.proofs.Turning.{has_stopped}
 use Rattle.binrec.proofs.Taking.{guest_uses}

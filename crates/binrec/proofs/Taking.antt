@@ -17,7 +17,7 @@ use Rattle.guest_run.specs.Guest.{GuestView, is_trap, traps_at, asks_by, asks_ne
 use Rattle.guest_run.proofs.NoCall.{no_call, never_called}
 use Rattle.guest_run.proofs.Ways.{few_ahead}
 use Rattle.binrec.specs.Guests.{turn, next_turn}
-use Rattle.binrec.specs.Plans.Partial.{Uses}
+use Rattle.top_plan.specs.Partial.{Uses}
 
 -- the way of a step from s uses what the step asks for
 abbrev WayUses : State → StepResult → Type 0

@@ -1,23 +1,23 @@
 -- What the top call owes follows from what happened.
 use Rattle.std.proofs.Common.{◌≡◌, ℕ, ◌+◌, List, [], Result, Ok, Err, refl, sym, ap, subst, inl, inr}
 use Rattle.br_outside.specs.Outside.{StreamView}
-use Rattle.binrec.specs.Plans.World.{World, on_report}
-use Rattle.binrec.specs.Plans.Texts.{End}
-use Rattle.binrec.specs.Plans.Plan.{Plan, Went}
-use Rattle.binrec.specs.Plans.Happened.{TellsStop, Happened}
-use Rattle.binrec.specs.Plans.Told.{IsExact, IsComplete, HasCause}
-use Rattle.binrec.specs.Plans.Partial.{IsPartial}
+use Rattle.top_plan.specs.World.{World, on_report}
+use Rattle.top_plan.specs.Texts.{WorkEnd}
+use Rattle.top_plan.specs.Plan.{Plan, Went}
+use Rattle.top_plan.specs.Happened.{TellsHalt, Happened}
+use Rattle.top_plan.specs.Expected.{IsExact, IsComplete, HasCause}
+use Rattle.top_plan.specs.Partial.{IsPartial}
 use Rattle.word_reader.specs.Words.{Asked, Builds, Traces, Runs, Merges, Shows}
 use Rattle.binrec.specs.Words.{asked_by, first_name}
 use Rattle.binrec.specs.Commands.{asked_plan, of_command, plan, run_plan, trace_plan}
 use Rattle.binrec.specs.Meaning.{MeansBuild, MeansRun, MeansMerge, MeansShow, MeansUsage}
 use Rattle.binrec.specs.TraceMeaning.{MeansTrace}
-use Rattle.binrec.specs.declared.acts.stop.Stop.{Stop}
-use Rattle.binrec.specs.declared.acts.stop.Stop.TheVariants.{Because}
-use Rattle.binrec.specs.declared.acts.stop.Cause.TheVariants.{Usage}
-use Rattle.binrec.proofs.Plans.Runs.{ended}
-use Rattle.binrec.proofs.Plans.Finish.{exact, complete, cause}
-use Rattle.binrec.proofs.Plans.Partial.{partial}
+use Rattle.top_plan.specs.declared.ends.Halt.{Halt}
+use Rattle.top_plan.specs.declared.ends.Halt.TheVariants.{Because}
+use Rattle.top_plan.specs.declared.ends.Cause.TheVariants.{Usage}
+use Rattle.top_plan.proofs.Passes.{ended}
+use Rattle.top_plan.proofs.Reported.{exact, complete, cause}
+use Rattle.top_plan.proofs.Interrupted.{partial}
 use Rattle.binrec.proofs.Sparing.{sparing, taking}
 use Rattle.binrec.proofs.RunMeant.{means_run}
 use Rattle.binrec.proofs.TraceMeant.{means_trace}
@@ -29,19 +29,19 @@ pub no_command : (words : List (List ℕ)) (at : ℕ) (s : World) → asked_by w
 no_command words at s is = let P : Result Asked ℕ → Type 0 = λ r. Went (of_command r (first_name words)) s (Err (Because (Usage at))) s in subst P (sym is) (ended (Err (Usage at)) s)
 
 -- the command that was asked for
-pub asked_for : (words : List (List ℕ)) (asked : Asked) (s : World) (o : End) (t : World) → asked_by words ≡ Ok asked → Went (asked_plan asked (first_name words)) s o t → Went (plan words) s o t
+pub asked_for : (words : List (List ℕ)) (asked : Asked) (s : World) (o : WorkEnd) (t : World) → asked_by words ≡ Ok asked → Went (asked_plan asked (first_name words)) s o t → Went (plan words) s o t
 asked_for words asked s o t is went = let P : Result Asked ℕ → Type 0 = λ r. Went (of_command r (first_name words)) s o t in subst P (sym is) went
 
 -- a run, by where its file stands in the words
-pub run_for : (words : List (List ℕ)) (steps : ℕ) (e : List ℕ) (args : List (List ℕ)) (word : ℕ) (s : World) (o : End) (t : World) → asked_by words ≡ Ok (Runs steps e args) → word ≡ first_name words → Went (run_plan steps e args word) s o t → Went (plan words) s o t
+pub run_for : (words : List (List ℕ)) (steps : ℕ) (e : List ℕ) (args : List (List ℕ)) (word : ℕ) (s : World) (o : WorkEnd) (t : World) → asked_by words ≡ Ok (Runs steps e args) → word ≡ first_name words → Went (run_plan steps e args word) s o t → Went (plan words) s o t
 run_for words steps e args word s o t is at went = let P : ℕ → Type 0 = λ w. Went (run_plan steps e args w) s o t in asked_for words (Runs steps e args) s o t is (subst P at went)
 
 -- a traced run, by where its names stand in the words
-pub trace_for : (words : List (List ℕ)) (steps : ℕ) (t e : List ℕ) (args : List (List ℕ)) (word : ℕ) (s : World) (o : End) (u : World) → asked_by words ≡ Ok (Traces steps t e args) → word ≡ first_name words → Went (trace_plan steps t e args (word + 1)) s o u → Went (plan words) s o u
+pub trace_for : (words : List (List ℕ)) (steps : ℕ) (t e : List ℕ) (args : List (List ℕ)) (word : ℕ) (s : World) (o : WorkEnd) (u : World) → asked_by words ≡ Ok (Traces steps t e args) → word ≡ first_name words → Went (trace_plan steps t e args (word + 1)) s o u → Went (plan words) s o u
 trace_for words steps t e args word s o u is at went = let P : ℕ → Type 0 = λ w. Went (trace_plan steps t e args (w + 1)) s o u in asked_for words (Traces steps t e args) s o u is (subst P at went)
 
 -- the line of a stop was given, or memory was wanting for it
-pub reported_stop : (p : Plan) (s m : World) (stop : Stop) (result : ℕ) (v : StreamView) → Went p s (Err stop) m → TellsStop stop m.report result v → Happened p s result (on_report m v)
+pub reported_stop : (p : Plan) (s m : World) (stop : Halt) (result : ℕ) (v : StreamView) → Went p s (Err stop) m → TellsHalt stop m.report result v → Happened p s result (on_report m v)
 reported_stop p s m stop result v went (inl is) = (Err stop, m, went, inl (is.0, ap (λ v. on_report m v) is.1))
 reported_stop p s m stop result v went (inr told) = (Err stop, m, went, inr (v, told, refl))
 

@@ -10,13 +10,13 @@ use Rattle.trace_file.specs.Edges.{Edge, collected}
 use Rattle.tracer.specs.declared.answers.Traced.{Traced}
 use Rattle.tracer.specs.Tour.{with_step, edge_limit}
 use Rattle.tracer.proofs.Onward.{all_rest, collected_append, collected_step, edges_after, after_none}
-use Rattle.binrec.specs.Plans.Plan.{Plan}
-use Rattle.binrec.specs.Plans.Told.{ends_with, turned_before, expected}
+use Rattle.top_plan.specs.Plan.{Plan}
+use Rattle.top_plan.specs.Expected.{ends_with, turned_before, expected}
 use Rattle.binrec.specs.Guests.{next_guest, next_turn}
 use Rattle.binrec.specs.Tours.{unless_full, tour_plan}
-use Rattle.binrec.specs.declared.acts.stop.Stop.TheVariants.{Because}
-use Rattle.binrec.specs.declared.acts.stop.Cause.TheVariants.{Limited}
-use Rattle.binrec.specs.declared.acts.stop.Limit.TheVariants as limits
+use Rattle.top_plan.specs.declared.ends.Halt.TheVariants.{Because}
+use Rattle.top_plan.specs.declared.ends.Cause.TheVariants.{Limited}
+use Rattle.top_plan.specs.declared.ends.Limit.TheVariants as limits
 use Rattle.binrec.proofs.Touring.{runs, none_left, has_stopped, has_room, is_full}
 use Rattle.binrec.proofs.Ending.{Rest, ran_before, IsBare, bare_next, by_running, no_step, no_steps, turn_ran}
 

@@ -3,7 +3,7 @@ use Rattle.std.proofs.Common.{◌≡◌, ◌<◌, ◌≤◌, ℕ, zero, suc, tru
 use Rattle.std.proofs.lemmas.Bool.{le-leb, lt-leb}
 use Rattle.br_outside.specs.Outside.{ShelfView}
 use Rattle.br_word.specs.State.{Running}
-use Rattle.guest_sys.specs.Streams.{Streams}
+use Rattle.br_outside.specs.Streams.{Streams}
 use Rattle.guest_sys.specs.Machine.{fed}
 use Rattle.guest_sys.specs.declared.answers.SysError.{SysError}
 use Rattle.guest_sys.specs.declared.answers.SysError.TheVariants as sys
@@ -14,19 +14,19 @@ use Rattle.tracer.specs.declared.answers.Traced.{Traced}
 use Rattle.tracer.specs.declared.answers.TracingError.{TracingError}
 use Rattle.tracer.specs.declared.answers.TracingError.TheVariants as errors
 use Rattle.tracer.specs.Tour.{edge_limit, traced, with_step, error_of, Wants, GoesOn, IsFull, Fails, Stays, RunsOut, Tour}
-use Rattle.binrec.specs.Plans.World.{World}
-use Rattle.binrec.specs.Plans.Texts.{End}
-use Rattle.binrec.specs.Plans.Plan.{Plan, Ends, Stores, Turns, Went}
-use Rattle.binrec.specs.Guests.{finish_of, next_guest, next_turn, stop_of_error}
-use Rattle.binrec.specs.Tours.{traced_line, unless_full, tour_plan, stop_of_tracing}
+use Rattle.top_plan.specs.World.{World}
+use Rattle.top_plan.specs.Texts.{WorkEnd}
+use Rattle.top_plan.specs.Plan.{Plan, Ends, Stores, Turns, Went}
+use Rattle.binrec.specs.Guests.{finish_of, next_guest, next_turn, halt_of_error}
+use Rattle.binrec.specs.Tours.{traced_line, unless_full, tour_plan, halt_of_tracing}
 use Rattle.binrec.specs.Commands.{traced_part}
-use Rattle.binrec.specs.declared.acts.stop.Finish.{Finish}
-use Rattle.binrec.specs.declared.acts.stop.Stop.{Stop}
-use Rattle.binrec.specs.declared.acts.stop.Stop.TheVariants.{Because, Memory}
-use Rattle.binrec.specs.declared.acts.stop.Cause.{Cause}
-use Rattle.binrec.specs.declared.acts.stop.Cause.TheVariants.{Limited}
-use Rattle.binrec.specs.declared.acts.stop.Limit.TheVariants as limits
-use Rattle.binrec.proofs.Plans.Runs.{ok_same, runs_out, ended}
+use Rattle.top_plan.specs.declared.ends.Finish.{Finish}
+use Rattle.top_plan.specs.declared.ends.Halt.{Halt}
+use Rattle.top_plan.specs.declared.ends.Halt.TheVariants.{Because, Memory}
+use Rattle.top_plan.specs.declared.ends.Cause.{Cause}
+use Rattle.top_plan.specs.declared.ends.Cause.TheVariants.{Limited}
+use Rattle.top_plan.specs.declared.ends.Limit.TheVariants as limits
+use Rattle.top_plan.proofs.Passes.{ok_same, runs_out, ended}
 use Rattle.binrec.proofs.Ends.{stored_trace}
 use Rattle.binrec.proofs.Turning.{with_streams, stopped_plan, same_plan, turn_done, turn_fails, ran_when_failed}
 
@@ -58,45 +58,45 @@ is_full next es many = ap (λ b. cond b (next es) (Ends (Err (Limited limits.Uni
 -- ---- what follows a tour
 
 -- the run goes on with the trace, or ends with the error
-abbrev pub Follows : (Traced → Plan) → Result Traced TracingError → World → End → World → Type 0
+abbrev pub Follows : (Traced → Plan) → Result Traced TracingError → World → WorkEnd → World → Type 0
 Follows last (Ok t) s o u = Went (last t) s o u
-Follows last (Err e) s o u = (o ≡ Err (stop_of_tracing e)) × (u ≡ s)
+Follows last (Err e) s o u = (o ≡ Err (halt_of_tracing e)) × (u ≡ s)
 
 -- the run has ended with this stop
-ends_so : (p : Plan) (s t : World) (stop : Stop) (o : End) (u : World) → (o ≡ Err stop) × (u ≡ t) → Went p s (Err stop) t → Went p s o u
+ends_so : (p : Plan) (s t : World) (stop : Halt) (o : WorkEnd) (u : World) → (o ≡ Err stop) × (u ≡ t) → Went p s (Err stop) t → Went p s o u
 ends_so p s t stop o u is went =
-    let P : End → Type 0 = λ o. Went p s o u in
+    let P : WorkEnd → Type 0 = λ o. Went p s o u in
     let Q : World → Type 0 = λ u. Went p s (Err stop) u in
     subst P (sym is.0) (subst Q (sym is.1) went)
 
 -- what follows an answer that is known
-follows : (last : Traced → Plan) (r a : Result Traced TracingError) (v : ShelfView) (before after : Streams) (o : End) (u : World) → r ≡ a → after ≡ before
+follows : (last : Traced → Plan) (r a : Result Traced TracingError) (v : ShelfView) (before after : Streams) (o : WorkEnd) (u : World) → r ≡ a → after ≡ before
     → Follows last r (with_streams v after) o u → Follows last a (with_streams v before) o u
 follows last r a v before after o u is same f =
     let P : Streams → Type 0 = λ z. Follows last r (with_streams v z) o u in
     let Q : Result Traced TracingError → Type 0 = λ r. Follows last r (with_streams v before) o u in
     subst Q is (subst P same f)
 
-wants : (last : Traced → Plan) (p : Plan) (r : Result Traced TracingError) (v : ShelfView) (before after : Streams) (o : End) (u : World) → Wants r before after
+wants : (last : Traced → Plan) (p : Plan) (r : Result Traced TracingError) (v : ShelfView) (before after : Streams) (o : WorkEnd) (u : World) → Wants r before after
     → Follows last r (with_streams v after) o u → Went p (with_streams v before) o u
 wants last p r v before after o u w f = ends_so p _ (with_streams v before) Memory o u (follows last r (Err errors.Memory) v before after o u w.0 w.1 f) (runs_out p (with_streams v before))
 
-same_error : (e : SysError) → stop_of_tracing (error_of e) ≡ stop_of_error e
+same_error : (e : SysError) → halt_of_tracing (error_of e) ≡ halt_of_error e
 same_error sys.Input = refl
 same_error sys.Out = refl
 same_error sys.Report = refl
 same_error sys.Memory = refl
 
 -- a step failed
-failed : (last : Traced → Plan) (n : ℕ) (g h : GuestView) (es : List Edge) (e : SysError) (r : Result Traced TracingError) (v : ShelfView) (before after : Streams) (o : End) (u : World) → StepCall (Err e) 0 g h before after → r ≡ Err (error_of e)
+failed : (last : Traced → Plan) (n : ℕ) (g h : GuestView) (es : List Edge) (e : SysError) (r : Result Traced TracingError) (v : ShelfView) (before after : Streams) (o : WorkEnd) (u : World) → StepCall (Err e) 0 g h before after → r ≡ Err (error_of e)
     → Follows last r (with_streams v after) o u → Went (tour_plan last (suc n) g es) (with_streams v before) o u
 failed last n g h es e r v before after o u a is f =
     let ends = follows last r (Err (error_of e)) v after after o u is refl f in
     same_plan _ _ _ o u (runs last n g es (ran_when_failed g h before after e a))
-    (ends_so _ _ (with_streams v after) (stop_of_error e) o u (ends.0 ∙ ap Err (same_error e), ends.1) (turn_fails (after_step last n g es) g h v before after e a))
+    (ends_so _ _ (with_streams v after) (halt_of_error e) o u (ends.0 ∙ ap Err (same_error e), ends.1) (turn_fails (after_step last n g es) g h v before after e a))
 
 -- a step was taken, after which the plan goes on
-stepped_on : (last : Traced → Plan) (n : ℕ) (g h : GuestView) (es : List Edge) (v : ShelfView) (before after : Streams) (o : End) (u : World) → StepCall (Ok true) 0 g h before after
+stepped_on : (last : Traced → Plan) (n : ℕ) (g h : GuestView) (es : List Edge) (v : ShelfView) (before after : Streams) (o : WorkEnd) (u : World) → StepCall (Ok true) 0 g h before after
     → Went (unless_full (tour_plan last n h) (with_step h.edge es)) (with_streams v after) o u → Went (tour_plan last (suc n) g es) (with_streams v before) o u
 stepped_on last n g h es v before after o u a went =
     let d : StepDone (fed a.left g.state) 0 g h before after = a.gives in
@@ -106,7 +106,7 @@ stepped_on last n g h es v before after o u a went =
 -- ---- a tour
 
 -- what follows a tour follows a run of its plan
-pub tours : (last : Traced → Plan) (n : ℕ) (g : GuestView) (es : List Edge) (r : Result Traced TracingError) (v : ShelfView) (before after : Streams) (o : End) (u : World) → Tour n g es r before after
+pub tours : (last : Traced → Plan) (n : ℕ) (g : GuestView) (es : List Edge) (r : Result Traced TracingError) (v : ShelfView) (before after : Streams) (o : WorkEnd) (u : World) → Tour n g es r before after
     → Follows last r (with_streams v after) o u → Went (tour_plan last n g es) (with_streams v before) o u
 unfolding Tour
 tours last zero g es r v before after o u (inl w) f = wants last (tour_plan last 0 g es) r v before after o u w f
@@ -123,7 +123,7 @@ tours last (suc n) g es r v before after o u (RunsOut w) f = wants last (tour_pl
 -- ---- its trace
 
 -- the edges are stored, and the line is made
-pub stored_tour : (target digest file lent line : List ℕ) (t : Traced) (finish : Finish) (s u : World) (o : End)
+pub stored_tour : (target digest file lent line : List ℕ) (t : Traced) (finish : Finish) (s u : World) (o : WorkEnd)
     → (let r : Result (List ℕ) Cause = Ok (trace_bytes t.edges digest) in r) ≡ Ok file → lent ≡ file → finish ≡ finish_of (stop_of t.stop)
     → (let r : Result (List ℕ) Cause = Ok (traced_line (stop_of t.stop) t.steps t.undefined (length t.edges)) in r) ≡ Ok line
     → Went (Stores target lent (Ends (Ok (record { finish = finish; line = line })))) s o u → Went (traced_part target digest t) s o u

@@ -16,21 +16,21 @@ use Rattle.tracer.specs.Tour.{entry_edge}
 use Rattle.tracer.specs.Told.{edges_in}
 use Rattle.word_reader.specs.Words.{Asked, Traces}
 use Rattle.binrec.specs.Words.{asked_by, first_name}
-use Rattle.binrec.specs.Plans.World.{World}
-use Rattle.binrec.specs.Plans.Texts.{finish_status}
-use Rattle.binrec.specs.Plans.Parts.{checked}
-use Rattle.binrec.specs.Plans.Plan.{Plan}
-use Rattle.binrec.specs.Plans.Told.{Ending, ends_with, after_fetch, expected, HasFailed, IsWhole, Decided, IsExact}
+use Rattle.top_plan.specs.World.{World}
+use Rattle.top_plan.specs.Texts.{finish_status}
+use Rattle.top_plan.specs.Parts.{checked}
+use Rattle.top_plan.specs.Plan.{Plan}
+use Rattle.top_plan.specs.Expected.{Ending, ends_with, after_fetch, expected, HasFailed, IsWhole, Decided, IsExact}
 use Rattle.binrec.specs.Guests.{finish_of}
 use Rattle.binrec.specs.Tours.{traced_line, traced_as, tour_plan}
 use Rattle.binrec.specs.Traces.{of_word, with_digest}
 use Rattle.binrec.specs.Commands.{traced_part, trace_plan, of_command, plan}
 use Rattle.binrec.specs.TraceMeaning.{line_after, HasTraced, HasFilled, TracesExe, TracesRead, TracesContent, MeansTrace}
-use Rattle.binrec.specs.declared.acts.stop.Stop.TheVariants.{Because, Outside}
-use Rattle.binrec.specs.declared.acts.stop.Cause.TheVariants.{RefusedWord, Limited}
-use Rattle.binrec.specs.declared.acts.stop.Object.{Object}
-use Rattle.binrec.specs.declared.acts.stop.Object.TheVariants as objects
-use Rattle.binrec.specs.declared.acts.stop.Limit.TheVariants as limits
+use Rattle.top_plan.specs.declared.ends.Halt.TheVariants.{Because, Outside}
+use Rattle.top_plan.specs.declared.ends.Cause.TheVariants.{RefusedWord, Limited}
+use Rattle.top_plan.specs.declared.ends.Object.{Object}
+use Rattle.top_plan.specs.declared.ends.Object.TheVariants as objects
+use Rattle.top_plan.specs.declared.ends.Limit.TheVariants as limits
 use Rattle.binrec.specs.declared.commands.original.Subject.{Subject}
 use Rattle.binrec.proofs.Turning.{same_stop}
 use Rattle.binrec.proofs.Ending.{ran_before}

@@ -2,20 +2,20 @@
 use Rattle.std.proofs.Common.{◌≡◌, ◌<◌, ◌≤◌, ◌+◌, ℕ, zero, suc, Bool, true, false, IsTrue, List, Result, Ok, Err, refl, sym, ◌∙◌, ap, subst, inr}
 use Rattle.br_outside.specs.Outside.{ShelfView}
 use Rattle.br_word.specs.State.{State, RunState, Running, Exited, Faulted}
-use Rattle.guest_sys.specs.Streams.{Streams, Tells}
+use Rattle.br_outside.specs.Streams.{Streams, Tells}
 use Rattle.guest_sys.specs.Machine.{fed}
 use Rattle.guest_sys.specs.Calls.{asks}
 use Rattle.guest_sys.specs.declared.answers.SysError.{SysError}
 use Rattle.guest_sys.specs.declared.answers.SysError.TheVariants as sys
 use Rattle.guest_run.specs.declared.stop.Stop as answer
 use Rattle.guest_run.specs.Guest.{GuestView, StepDone, StepFailed, NoStep, StepCall, stop_of, answer_of, while_running, asks_by, asks_next, traps}
-use Rattle.binrec.specs.Plans.World.{World, world}
-use Rattle.binrec.specs.Plans.Texts.{End}
-use Rattle.binrec.specs.Plans.Plan.{Plan, Turns, Went, AfterTurn, GoesOn, FailsInput, FailsOutput, FailsReport, WantsMemory}
-use Rattle.binrec.specs.Guests.{last_line, finish_of, next_guest, next_turn, stands, guest_plan, stop_of_error}
-use Rattle.binrec.specs.declared.acts.stop.Finish.{Finish}
-use Rattle.binrec.specs.declared.acts.stop.Cause.{Cause}
-use Rattle.binrec.proofs.Plans.Runs.{ok_same}
+use Rattle.top_plan.specs.World.{World, world}
+use Rattle.top_plan.specs.Texts.{WorkEnd}
+use Rattle.top_plan.specs.Plan.{Plan, Turns, Went, AfterTurn, GoesOn, FailsInput, FailsOutput, FailsReport, WantsMemory}
+use Rattle.binrec.specs.Guests.{last_line, finish_of, next_guest, next_turn, stands, guest_plan, halt_of_error}
+use Rattle.top_plan.specs.declared.ends.Finish.{Finish}
+use Rattle.top_plan.specs.declared.ends.Cause.{Cause}
+use Rattle.top_plan.proofs.Passes.{ok_same}
 
 -- a world of a shelf and three streams
 abbrev pub with_streams : ShelfView → Streams → World
@@ -35,18 +35,18 @@ stood g a f line n u w is steps undefined finish text =
     let s : stop_of a ≡ g.state.stop = ap stop_of is ∙ same_stop g.state.stop in
     let f' : f ≡ finish_of g.state.stop = finish ∙ ap finish_of s in
     let l' : line ≡ last_line g.state.stop g.steps g.undefined = text ∙ (ap (λ s. last_line s n u) s ∙ (ap (λ n. last_line g.state.stop n u) steps ∙ ap (λ u. last_line g.state.stop g.steps u) undefined)) in
-    let P : Finish → Type 0 = λ f'. (let o : End = Ok (record { finish = f; line = line }) in o) ≡ Ok (record { finish = f'; line = last_line g.state.stop g.steps g.undefined }) in
+    let P : Finish → Type 0 = λ f'. (let o : WorkEnd = Ok (record { finish = f; line = line }) in o) ≡ Ok (record { finish = f'; line = last_line g.state.stop g.steps g.undefined }) in
     inr (subst P f' (ap (λ l. Ok (record { finish = f; line = l })) l'), refl)
 
 -- ---- a step as a turn, whatever comes after it
 
-turns : (next : List ℕ → Plan) (g : GuestView) (left : List ℕ) (s : World) (o : End) (u : World) → Tells left s.input
+turns : (next : List ℕ → Plan) (g : GuestView) (left : List ℕ) (s : World) (o : WorkEnd) (u : World) → Tells left s.input
     → AfterTurn (next_turn g left) left (Went (next left)) s o u → Went (Turns (next_turn g) next) s o u
 unfolding Went
 turns next g left s o u told after = inr (left, told, after)
 
 -- a step was taken
-pub turn_done : (next : List ℕ → Plan) (g h : GuestView) (v : ShelfView) (before after : Streams) (o : End) (u : World) (a : StepCall (Ok true) 0 g h before after)
+pub turn_done : (next : List ℕ → Plan) (g h : GuestView) (v : ShelfView) (before after : Streams) (o : WorkEnd) (u : World) (a : StepCall (Ok true) 0 g h before after)
     → Went (next a.left) (with_streams v after) o u → Went (Turns (next_turn g) next) (with_streams v before) o u
 turn_done next g h v before after o u a went =
     let d : StepDone (fed a.left g.state) 0 g h before after = a.gives in
@@ -60,7 +60,7 @@ asked_all false s is = let h : false ≡ true = is in cc
 
 -- a step failed
 pub turn_fails : (next : List ℕ → Plan) (g h : GuestView) (v : ShelfView) (before after : Streams) (error : SysError) → StepCall (Err error) 0 g h before after
-    → Went (Turns (next_turn g) next) (with_streams v before) (Err (stop_of_error error)) (with_streams v after)
+    → Went (Turns (next_turn g) next) (with_streams v before) (Err (halt_of_error error)) (with_streams v after)
 turn_fails next g h v before after sys.Input a =
     let d : StepFailed sys.Input (fed a.left g.state) 0 g h before after = a.gives in
     let few : asks (fed a.left g.state) ≡ asks_next (fed a.left g.state) = asked_all (traps (fed a.left g.state)) (fed a.left g.state) d.trap in
@@ -106,15 +106,15 @@ has_stopped zero g not = refl
 has_stopped (suc n) g not = stopped_plan g.state.stop _ _ not
 
 -- a run of another plan that is the same
-pub same_plan : (p q : Plan) (s : World) (o : End) (u : World) → p ≡ q → Went q s o u → Went p s o u
+pub same_plan : (p q : Plan) (s : World) (o : WorkEnd) (u : World) → p ≡ q → Went q s o u → Went p s o u
 same_plan p q s o u is went = let P : Plan → Type 0 = λ p. Went p s o u in subst P (sym is) went
 
 -- a run of a guest that was made as this one
-pub guest_as : (n : ℕ) (g h : GuestView) (s : World) (o : End) (u : World) → (let r : Result GuestView Cause = Ok g in r) ≡ Ok h → Went (guest_plan n h) s o u → Went (guest_plan n g) s o u
+pub guest_as : (n : ℕ) (g h : GuestView) (s : World) (o : WorkEnd) (u : World) → (let r : Result GuestView Cause = Ok g in r) ≡ Ok h → Went (guest_plan n h) s o u → Went (guest_plan n g) s o u
 guest_as n g h s o u is went = let P : GuestView → Type 0 = λ g. Went (guest_plan n g) s o u in subst P (sym (ok_same g h is)) went
 
 -- a step was taken
-step_on : (n : ℕ) (g h : GuestView) (v : ShelfView) (before after : Streams) (o : End) (u : World) → StepCall (Ok true) 0 g h before after
+step_on : (n : ℕ) (g h : GuestView) (v : ShelfView) (before after : Streams) (o : WorkEnd) (u : World) → StepCall (Ok true) 0 g h before after
     → Went (guest_plan n h) (with_streams v after) o u → Went (guest_plan (suc n) g) (with_streams v before) o u
 step_on n g h v before after o u a went =
     let d : StepDone (fed a.left g.state) 0 g h before after = a.gives in
@@ -122,7 +122,7 @@ step_on n g h v before after o u a went =
     same_plan (guest_plan (suc n) g) _ (with_streams v before) o u (runs n g d.running)
     (turn_done (λ left. guest_plan n (next_guest g left)) g h v before after o u a (subst P d.guest went))
 
-pub steps_on : (k n : ℕ) (g h : GuestView) (v : ShelfView) (before after : Streams) (o : End) (u : World) (b : Bool) → StepCall (Ok b) 0 g h before after → b ≡ true → k ≡ suc n
+pub steps_on : (k n : ℕ) (g h : GuestView) (v : ShelfView) (before after : Streams) (o : WorkEnd) (u : World) (b : Bool) → StepCall (Ok b) 0 g h before after → b ≡ true → k ≡ suc n
     → Went (guest_plan n h) (with_streams v after) o u → Went (guest_plan k g) (with_streams v before) o u
 steps_on k n g h v before after o u b a taken more went =
     let P : Bool → Type 0 = λ b. StepCall (Ok b) 0 g h before after in
@@ -130,7 +130,7 @@ steps_on k n g h v before after o u b a taken more went =
     subst Q (sym more) (step_on n g h v before after o u (subst P taken a) went)
 
 -- no step was taken
-pub stays : (n : ℕ) (g h : GuestView) (v : ShelfView) (before after : Streams) (o : End) (u : World) (b : Bool) → StepCall (Ok b) 0 g h before after → b ≡ false
+pub stays : (n : ℕ) (g h : GuestView) (v : ShelfView) (before after : Streams) (o : WorkEnd) (u : World) (b : Bool) → StepCall (Ok b) 0 g h before after → b ≡ false
     → Went (stands h) (with_streams v after) o u → Went (guest_plan n g) (with_streams v before) o u
 stays n g h v before after o u b a none went =
     let R : Bool → Type 0 = λ b. StepCall (Ok b) 0 g h before after in
@@ -142,17 +142,17 @@ stays n g h v before after o u b a none went =
 
 -- a step failed
 pub fails : (k n : ℕ) (g h : GuestView) (v : ShelfView) (before after : Streams) (error : SysError) → StepCall (Err error) 0 g h before after → k ≡ suc n
-    → Went (guest_plan k g) (with_streams v before) (Err (stop_of_error error)) (with_streams v after)
+    → Went (guest_plan k g) (with_streams v before) (Err (halt_of_error error)) (with_streams v after)
 fails k n g h v before after error a more =
-    let Q : ℕ → Type 0 = λ k. Went (guest_plan k g) (with_streams v before) (Err (stop_of_error error)) (with_streams v after) in
+    let Q : ℕ → Type 0 = λ k. Went (guest_plan k g) (with_streams v before) (Err (halt_of_error error)) (with_streams v after) in
     subst Q (sym more) (same_plan (guest_plan (suc n) g) _ _ _ _ (runs n g (ran_when_failed g h before after error a))
     (turn_fails (λ left. guest_plan n (next_guest g left)) g h v before after error a))
 
 -- the steps before a guest that takes none any more
-pub before : (n k : ℕ) (g : GuestView) (s : World) (o : End) (u : World) → k ≡ n → Went (guest_plan n g) s o u → Went (guest_plan k g) s o u
+pub before : (n k : ℕ) (g : GuestView) (s : World) (o : WorkEnd) (u : World) → k ≡ n → Went (guest_plan n g) s o u → Went (guest_plan k g) s o u
 before n k g s o u is went = let P : ℕ → Type 0 = λ k. Went (guest_plan k g) s o u in subst P (sym is) went
 
-pub at_last : (k : ℕ) (g : GuestView) (s : World) (o : End) (u : World) → k ≡ 0 → Went (stands g) s o u → Went (guest_plan k g) s o u
+pub at_last : (k : ℕ) (g : GuestView) (s : World) (o : WorkEnd) (u : World) → k ≡ 0 → Went (stands g) s o u → Went (guest_plan k g) s o u
 at_last k g s o u is went = before 0 k g s o u is (same_plan (guest_plan 0 g) (stands g) s o u (none_left g) went)
 
 -- a guest that took a step

@@ -4,18 +4,19 @@ use Rattle.elf_read.specs.Elf.{elf}
 use Rattle.elf_read.specs.declared.exe.Reach.TheVariants.{Original}
 use Rattle.trace_file.specs.Edges.{Edge, union_of}
 use Rattle.trace_file.specs.Trace.{trace}
-use Rattle.binrec.specs.Plans.World.{World}
-use Rattle.binrec.specs.Plans.Plan.{Plan, Ends}
-use Rattle.binrec.specs.Plans.Parts.{checked}
-use Rattle.binrec.specs.Plans.Happened.{Happened}
-use Rattle.binrec.specs.Plans.Told.{NoInput}
+use Rattle.top_plan.specs.World.{World}
+use Rattle.top_plan.specs.Plan.{Plan, Ends}
+use Rattle.top_plan.specs.Parts.{checked}
+use Rattle.top_plan.specs.Happened.{Happened}
+use Rattle.top_plan.specs.Expected.{NoInput}
 use Rattle.flow_graph.specs.Made.{graph_of}
 use Rattle.binrec.specs.Traces.{of_word, with_digest, edges_of_word, counted, subject_part, traces_part, limited}
-use Rattle.binrec.specs.Listings.{listing, limited_graph, shown_as, prints, listing_part}
+use Rattle.binrec.specs.Listings.{listing, limited_graph, shown_as, listing_part}
+use Rattle.top_plan.specs.Parts.{prints}
 use Rattle.binrec.specs.Commands.{store_part, merge_plan, show_plan}
 use Rattle.binrec.specs.declared.commands.original.Subject.{Subject}
-use Rattle.binrec.specs.declared.acts.stop.Cause.{Cause}
-use Rattle.binrec.proofs.Plans.Quiet.{input_stays}
+use Rattle.top_plan.specs.declared.ends.Cause.{Cause}
+use Rattle.top_plan.proofs.Unread.{input_stays}
 
 -- neither the work nor the report line takes any
 pub untaken : (p : Plan) (s : World) (result : ℕ) (t : World) → NoInput p → Happened p s result t → t.input ≡ s.input

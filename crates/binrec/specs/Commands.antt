@@ -7,9 +7,9 @@ use Rattle.elf_read.specs.declared.exe.Reach.TheVariants.{Guest}
 use Rattle.trace_file.specs.Edges.{Edge, union_of}
 use Rattle.trace_file.specs.Trace.{trace_bytes}
 use Rattle.build_core.specs.Image.{image}
-use Rattle.binrec.specs.Plans.Plan.{Plan, Ends, Fetches, Stores}
-use Rattle.binrec.specs.Plans.Parts.{checked}
-use Rattle.binrec.specs.Plans.Texts.{Finished, End}
+use Rattle.top_plan.specs.Plan.{Plan, Ends, Fetches, Stores}
+use Rattle.top_plan.specs.Parts.{checked}
+use Rattle.top_plan.specs.Texts.{Finished, WorkEnd}
 use Rattle.word_reader.specs.Words.{Asked, Builds, Traces, Runs, Merges, Shows}
 use Rattle.guest_run.specs.Guest.{beginning}
 use Rattle.flow_graph.specs.Made.{graph_of}
@@ -20,10 +20,10 @@ use Rattle.tracer.specs.Tour.{entry_edge}
 use Rattle.binrec.specs.Guests.{guest_plan}
 use Rattle.binrec.specs.Tours.{traced_as, tour_plan}
 use Rattle.binrec.specs.Traces.{of_word, original_part, subject_part, traces_part, limited}
-use Rattle.binrec.specs.declared.acts.stop.Outcome.{Outcome}
-use Rattle.binrec.specs.declared.acts.stop.Finish.TheVariants.{Done}
-use Rattle.binrec.specs.declared.acts.stop.Stop.{Stop}
-use Rattle.binrec.specs.declared.acts.stop.Cause.TheVariants.{Usage}
+use Rattle.top_plan.specs.declared.ends.Outcome.{Outcome}
+use Rattle.top_plan.specs.declared.ends.Finish.TheVariants.{Done}
+use Rattle.top_plan.specs.declared.ends.Halt.{Halt}
+use Rattle.top_plan.specs.declared.ends.Cause.TheVariants.{Usage}
 
 abbrev pub built_line : ℕ → ℕ → ℕ → List ℕ
 built_line blocks code length = codes "built " ++ (decimal blocks ++ (codes " " ++ (decimal code ++ (codes " " ++ (decimal length ++ codes "\n")))))
@@ -86,6 +86,6 @@ abbrev pub plan : List (List ℕ) → Plan
 plan words = of_command (asked_by words) (first_name words)
 
 -- how the work of a command ended
-abbrev pub end_of : Result Outcome Stop → End
+abbrev pub end_of : Result Outcome Halt → WorkEnd
 end_of (Ok outcome) = Ok (record { finish = outcome.finish; line = string_bytes outcome.line })
 end_of (Err stop) = Err stop

@@ -11,14 +11,14 @@ use Rattle.guest_sys.specs.Machine.{fed}
 use Rattle.guest_sys.specs.declared.answers.SysError.{SysError}
 use Rattle.guest_sys.specs.declared.answers.SysError.TheVariants as sys
 use Rattle.guest_run.specs.Guest.{GuestView, stepped, asks_next, ahead, while_running}
-use Rattle.binrec.specs.Plans.World.{World}
-use Rattle.binrec.specs.Plans.Texts.{Finished, End}
-use Rattle.binrec.specs.Plans.Plan.{Plan, Ends, Turns, Turned, Went}
-use Rattle.binrec.specs.declared.acts.stop.Finish.{Finish}
-use Rattle.binrec.specs.declared.acts.stop.Finish.TheVariants as finishes
-use Rattle.binrec.specs.declared.acts.stop.Object.TheVariants as objects
-use Rattle.binrec.specs.declared.acts.stop.Stop as work
-use Rattle.binrec.specs.declared.acts.stop.Stop.TheVariants.{Outside, Memory}
+use Rattle.top_plan.specs.World.{World}
+use Rattle.top_plan.specs.Texts.{Finished, WorkEnd}
+use Rattle.top_plan.specs.Plan.{Plan, Ends, Turns, Turned, Went}
+use Rattle.top_plan.specs.declared.ends.Finish.{Finish}
+use Rattle.top_plan.specs.declared.ends.Finish.TheVariants as finishes
+use Rattle.top_plan.specs.declared.ends.Object.TheVariants as objects
+use Rattle.top_plan.specs.declared.ends.Halt as work
+use Rattle.top_plan.specs.declared.ends.Halt.TheVariants.{Outside, Memory}
 
 -- ---- the last line
 
@@ -78,13 +78,13 @@ guest_plan (suc n) g = while_running g.state.stop (Turns (next_turn g) (λ left.
 
 -- ---- what the functions owe
 
-abbrev pub stop_of_error : SysError → work.Stop
-stop_of_error sys.Input = Outside objects.Input
-stop_of_error sys.Out = Outside objects.Output
-stop_of_error sys.Report = Outside objects.Report
-stop_of_error sys.Memory = Memory
+abbrev pub halt_of_error : SysError → work.Halt
+halt_of_error sys.Input = Outside objects.Input
+halt_of_error sys.Out = Outside objects.Output
+halt_of_error sys.Report = Outside objects.Report
+halt_of_error sys.Memory = Memory
 
 -- The guest took turns: where this answers Ok the run goes on as the guest stands then, else it ends with the stop.
-abbrev pub TakesTurns : ℕ → GuestView → World → Result (Unit {0}) work.Stop → GuestView → World → Type 0
-TakesTurns n g s (Ok _) h t = (o : End) (u : World) → Went (stands h) t o u → Went (guest_plan n g) s o u
+abbrev pub TakesTurns : ℕ → GuestView → World → Result (Unit {0}) work.Halt → GuestView → World → Type 0
+TakesTurns n g s (Ok _) h t = (o : WorkEnd) (u : World) → Went (stands h) t o u → Went (guest_plan n g) s o u
 TakesTurns n g s (Err stop) h t = Went (guest_plan n g) s (Err stop) t

@@ -1,4 +1,3 @@
-pub mod Plans
 pub mod Words
 pub mod Guests
 pub mod Tours

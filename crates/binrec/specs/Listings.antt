@@ -1,15 +1,16 @@
 -- The listing of a graph, as a part of a plan.
-use Rattle.std.specs.Prelude.{ℕ, nat_le, cond, List, [], ◌∷◌, ◌++◌, length, flat_map, codes, Result, Ok, Err}
+use Rattle.std.specs.Prelude.{ℕ, nat_le, cond, List, ◌++◌, length, flat_map, codes, Result, Ok, Err}
 use Rattle.std.specs.Fmt.{decimal}
 use Rattle.elf_read.specs.declared.exe.Exe.{Exe}
 use Rattle.flow_graph.specs.Graph.{Node}
 use Rattle.show_text.specs.Listing.{listing_of}
-use Rattle.binrec.specs.Plans.Plan.{Plan, Ends, Prints}
-use Rattle.binrec.specs.Plans.Texts.{Finished}
-use Rattle.binrec.specs.declared.acts.stop.Cause.{Cause}
-use Rattle.binrec.specs.declared.acts.stop.Cause.TheVariants.{Limited}
-use Rattle.binrec.specs.declared.acts.stop.Limit.TheVariants as limits
-use Rattle.binrec.specs.declared.acts.stop.Finish.TheVariants.{Done}
+use Rattle.top_plan.specs.Plan.{Plan, Ends}
+use Rattle.top_plan.specs.Parts.{prints}
+use Rattle.top_plan.specs.Texts.{Finished}
+use Rattle.top_plan.specs.declared.ends.Cause.{Cause}
+use Rattle.top_plan.specs.declared.ends.Cause.TheVariants.{Limited}
+use Rattle.top_plan.specs.declared.ends.Limit.TheVariants as limits
+use Rattle.top_plan.specs.declared.ends.Finish.TheVariants.{Done}
 
 -- the blocks one after another
 abbrev pub listing : Exe → List Node → List ℕ
@@ -24,11 +25,6 @@ shown_line blocks = codes "shown " ++ (decimal blocks ++ codes "\n")
 
 abbrev pub shown_as : ℕ → Finished
 shown_as blocks = record { finish = Done; line = shown_line blocks }
-
--- a text is printed, unless there is nothing to print
-abbrev pub prints : List ℕ → Plan → Plan
-prints [] next = next
-prints (b ∷ bs) next = Prints (b ∷ bs) next
 
 abbrev pub listing_part : Exe → List Node → Plan
 listing_part exe g = prints (listing exe g) (Ends (Ok (shown_as (length g))))

@@ -14,21 +14,21 @@ use Rattle.trace_file.specs.Trace as trace_file
 use Rattle.flow_graph.specs.Graph.{Node}
 use Rattle.flow_graph.specs.Made.{graph_of}
 use Rattle.sim_laws.specs.Preserves.{Preserves}
-use Rattle.binrec.specs.Plans.World.{World}
+use Rattle.top_plan.specs.World.{World}
 use Rattle.br_word.specs.State.{State}
 use Rattle.run_model.specs.Opening.{opening, arguments}
 use Rattle.run_model.specs.Run.{run}
 use Rattle.guest_run.specs.Guest.{ahead, steps_taken, undefined_taken}
 use Rattle.binrec.specs.Guests.{finish_of, last_line}
-use Rattle.binrec.specs.Plans.Texts.{cause_text, object_text, finish_status}
-use Rattle.binrec.specs.Plans.Told.{HasFailed, LeavesBut}
+use Rattle.top_plan.specs.Texts.{cause_text, object_text, finish_status}
+use Rattle.top_plan.specs.Expected.{HasFailed, LeavesBut}
 use Rattle.binrec.specs.Words.{asked_by}
 use Rattle.binrec.specs.Listings.{listing, shown_line}
 use Rattle.binrec.specs.Commands.{built_line, merged_line}
-use Rattle.binrec.specs.declared.acts.stop.Cause.TheVariants.{Usage, RefusedWord, Limited}
-use Rattle.binrec.specs.declared.acts.stop.Object.{Object}
-use Rattle.binrec.specs.declared.acts.stop.Object.TheVariants as objects
-use Rattle.binrec.specs.declared.acts.stop.Limit.TheVariants as limits
+use Rattle.top_plan.specs.declared.ends.Cause.TheVariants.{Usage, RefusedWord, Limited}
+use Rattle.top_plan.specs.declared.ends.Object.{Object}
+use Rattle.top_plan.specs.declared.ends.Object.TheVariants as objects
+use Rattle.top_plan.specs.declared.ends.Limit.TheVariants as limits
 
 -- the report grew by this line, and no more
 abbrev pub Says : List ℕ → World → World → Type 0

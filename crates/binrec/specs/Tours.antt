@@ -8,14 +8,14 @@ use Rattle.tracer.specs.declared.answers.Traced.{Traced}
 use Rattle.tracer.specs.declared.answers.TracingError.{TracingError}
 use Rattle.tracer.specs.declared.answers.TracingError.TheVariants as errors
 use Rattle.tracer.specs.Tour.{traced, with_step, edge_limit}
-use Rattle.binrec.specs.Plans.Texts.{Finished}
-use Rattle.binrec.specs.Plans.Plan.{Plan, Ends, Turns}
+use Rattle.top_plan.specs.Texts.{Finished}
+use Rattle.top_plan.specs.Plan.{Plan, Ends, Turns}
 use Rattle.binrec.specs.Guests.{stand_text, counts_text, finish_of, next_guest, next_turn}
-use Rattle.binrec.specs.declared.acts.stop.Cause.TheVariants.{Limited}
-use Rattle.binrec.specs.declared.acts.stop.Limit.TheVariants as limits
-use Rattle.binrec.specs.declared.acts.stop.Object.TheVariants as objects
-use Rattle.binrec.specs.declared.acts.stop.Stop as work
-use Rattle.binrec.specs.declared.acts.stop.Stop.TheVariants.{Because, Outside, Memory}
+use Rattle.top_plan.specs.declared.ends.Cause.TheVariants.{Limited}
+use Rattle.top_plan.specs.declared.ends.Limit.TheVariants as limits
+use Rattle.top_plan.specs.declared.ends.Object.TheVariants as objects
+use Rattle.top_plan.specs.declared.ends.Halt as work
+use Rattle.top_plan.specs.declared.ends.Halt.TheVariants.{Because, Outside, Memory}
 
 -- the last line of `run`, with the number of edges that were recorded
 abbrev pub traced_line : RunState → ℕ → ℕ → ℕ → List ℕ
@@ -37,9 +37,9 @@ tour_plan last (suc n) g es = while_running g.state.stop
 
 -- ---- what the functions owe
 
-abbrev pub stop_of_tracing : TracingError → work.Stop
-stop_of_tracing errors.Input = Outside objects.Input
-stop_of_tracing errors.Out = Outside objects.Output
-stop_of_tracing errors.Report = Outside objects.Report
-stop_of_tracing errors.Union = Because (Limited limits.Union)
-stop_of_tracing errors.Memory = Memory
+abbrev pub halt_of_tracing : TracingError → work.Halt
+halt_of_tracing errors.Input = Outside objects.Input
+halt_of_tracing errors.Out = Outside objects.Output
+halt_of_tracing errors.Report = Outside objects.Report
+halt_of_tracing errors.Union = Because (Limited limits.Union)
+halt_of_tracing errors.Memory = Memory

@@ -13,15 +13,15 @@ use Rattle.guest_run.specs.Guest.{ahead, steps_taken, undefined_taken}
 use Rattle.trace_file.specs.Trace.{trace_bytes}
 use Rattle.tracer.specs.Tour.{edge_limit}
 use Rattle.tracer.specs.Told.{edges_in}
-use Rattle.binrec.specs.Plans.World.{World}
-use Rattle.binrec.specs.Plans.Texts.{cause_text, object_text, finish_status}
-use Rattle.binrec.specs.Plans.Told.{LeavesBut}
+use Rattle.top_plan.specs.World.{World}
+use Rattle.top_plan.specs.Texts.{cause_text, object_text, finish_status}
+use Rattle.top_plan.specs.Expected.{LeavesBut}
 use Rattle.binrec.specs.Guests.{finish_of}
 use Rattle.binrec.specs.Tours.{traced_line}
 use Rattle.binrec.specs.Meaning.{Says, Unstored, OnlySays, UnlessBroken}
-use Rattle.binrec.specs.declared.acts.stop.Cause.TheVariants.{RefusedWord, Limited}
-use Rattle.binrec.specs.declared.acts.stop.Object.TheVariants as objects
-use Rattle.binrec.specs.declared.acts.stop.Limit.TheVariants as limits
+use Rattle.top_plan.specs.declared.ends.Cause.TheVariants.{RefusedWord, Limited}
+use Rattle.top_plan.specs.declared.ends.Object.TheVariants as objects
+use Rattle.top_plan.specs.declared.ends.Limit.TheVariants as limits
 
 -- the steps up to a state have shown this, and then a line was reported; of the input a read that faults may have taken more
 pub record HasShown (u : State) (line : List ℕ) (s t : World) : Type 0 where

@@ -8,11 +8,11 @@ use Rattle.elf_read.specs.declared.exe.Reach.TheVariants.{Original}
 use Rattle.trace_file.specs.Edges.{Edge}
 use Rattle.trace_file.specs.Trace.{trace, trace_bytes}
 use Rattle.trace_file.specs.Trace as trace_file
-use Rattle.binrec.specs.Plans.Plan.{Plan, Fetches}
-use Rattle.binrec.specs.Plans.Parts.{checked}
-use Rattle.binrec.specs.declared.acts.stop.Cause.{Cause}
-use Rattle.binrec.specs.declared.acts.stop.Cause.TheVariants.{RefusedWord, Limited}
-use Rattle.binrec.specs.declared.acts.stop.Limit.TheVariants as limits
+use Rattle.top_plan.specs.Plan.{Plan, Fetches}
+use Rattle.top_plan.specs.Parts.{checked}
+use Rattle.top_plan.specs.declared.ends.Cause.{Cause}
+use Rattle.top_plan.specs.declared.ends.Cause.TheVariants.{RefusedWord, Limited}
+use Rattle.top_plan.specs.declared.ends.Limit.TheVariants as limits
 use Rattle.binrec.specs.declared.commands.original.Subject.{Subject}
 
 -- what a file says, or its refusal, with the position of its word

@@ -5,7 +5,6 @@
 //! the blocks that they have seen.
 #![tactic(auto)]
 
-mod acts;
 mod commands;
 #[cfg(test)]
 mod tests;

@@ -1,18 +1,16 @@
 //! The top call.
 ghost use Rattle.std.specs.Prelude.{◌≡◌, ℕ, ◌+◌, List, [], Ok, map, string_bytes};
-ghost use Rattle.binrec.specs.Plans.World.{world};
-ghost use Rattle.binrec.specs.Plans.Plan.{Went};
-ghost use Rattle.binrec.specs.Plans.Happened.{Happened};
-ghost use Rattle.binrec.specs.Plans.Told.{IsExact, IsComplete, HasCause};
-ghost use Rattle.binrec.specs.Plans.Partial.{IsPartial};
+ghost use Rattle.top_plan.specs.World.{world};
+ghost use Rattle.top_plan.specs.Plan.{Went};
+ghost use Rattle.top_plan.specs.Happened.{Happened};
+ghost use Rattle.top_plan.specs.Expected.{IsExact, IsComplete, HasCause};
+ghost use Rattle.top_plan.specs.Partial.{IsPartial};
 ghost use Rattle.word_reader.specs.Words.{Builds, Traces, Runs, Merges, Shows};
 ghost use Rattle.binrec.specs.Words.{asked_by, first_name};
 ghost use Rattle.binrec.specs.Commands.{plan, end_of};
 ghost use Rattle.binrec.specs.Meaning.{MeansBuild, MeansRun, MeansMerge, MeansShow, MeansUsage};
 ghost use Rattle.binrec.specs.TraceMeaning.{MeansTrace};
 
-use crate::acts::report::{tell, tell_stop};
-use crate::acts::stop::{Cause, Outcome, Stop};
 use crate::commands::build::build_command;
 use crate::commands::merge::merge_command;
 use crate::commands::run::run_command;
@@ -22,6 +20,7 @@ use crate::words::{first_name, read_command};
 use br_outside::{Shelf, Sink, Source};
 use build_core::image_law;
 use std::alloc::Global;
+use top_plan::{Cause, Halt, Outcome, tell, tell_halt};
 use word_reader::Command;
 
 /// The status of a command, with which the program ends.
@@ -36,7 +35,7 @@ fn work<F: Shelf, I: Source, O: Sink, R: Sink>(
     input: &mut I,
     out: &mut O,
     report: &mut R,
-) -> Result<Outcome, Stop>
+) -> Result<Outcome, Halt>
     ensures { Went (plan (map string_bytes words.now)) (world (F.seen shelf.old) (I.seen input.old) (O.seen out.old) (R.seen report.old)) (end_of result) (world (F.seen shelf.new) (I.seen input.new) (O.seen out.new) (R.seen report.new)) }
 {
     let first = first_name(words);
@@ -61,8 +60,8 @@ fn work<F: Shelf, I: Source, O: Sink, R: Sink>(
             )
         }
         Ok(Command::Show { e, traces }) => show_command(alloc, shelf, out, e, traces),
-        Ok(_) => Err(Stop::Because(Cause::Usage(0))),
-        Err(at) => Err(Stop::Because(Cause::Usage(at))),
+        Ok(_) => Err(Halt::Because(Cause::Usage(0))),
+        Err(at) => Err(Halt::Because(Cause::Usage(at))),
     }
 }
 
@@ -151,6 +150,6 @@ pub fn binrec<F: Shelf, I: Source, O: Sink, R: Sink>(
     image_law();
     match work(alloc, words, shelf, input, out, report) {
         Ok(outcome) => Status(tell(report, outcome.line.as_bytes(), outcome.finish.status())),
-        Err(stop) => Status(tell_stop(alloc, report, stop)),
+        Err(stop) => Status(tell_halt(alloc, report, stop)),
     }
 }

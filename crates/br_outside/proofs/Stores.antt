@@ -25,7 +25,7 @@ failed_store name bytes files f g less is =
 
 -- a call without memory leaves all names
 pub kept_store : (name bytes : List ℕ) (files next : Files) (n : ℕ) (c : Bool) → next ≡ files → n < 2 ^ 64 → Stored name bytes (Err store_errors.Memory) (record { files = Some files; faults = n; calm = c }) (record { files = Some next; faults = n; calm = c })
-kept_store name bytes files next n c same less = record { calm = refl; later = omega arith; bounded = less; gives = (ap Some same, λ calm. refl) }
+kept_store name bytes files next n c same less = record { calm = refl; later = omega arith; bounded = less; gives = (ap Some same, refl) }
 
 pub done_store : (name bytes : List ℕ) (files next : Files) (n : ℕ) (c : Bool) → next ≡ put name (Some bytes) files → n < 2 ^ 64 → Stored name bytes (Ok tt) (record { files = Some files; faults = n; calm = c }) (record { files = Some next; faults = n; calm = c })
-done_store name bytes files next n c same less = record { calm = refl; later = omega arith; bounded = less; gives = (ap Some same, λ calm. refl) }
+done_store name bytes files next n c same less = record { calm = refl; later = omega arith; bounded = less; gives = (ap Some same, refl) }

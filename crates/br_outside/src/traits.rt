@@ -1,8 +1,8 @@
 //! The objects of the outside.
 //!
-//! Each has a count of its faults, which never falls, is at most `2^64 - 1`, and stands at that value once it is
-//! there; "the count rose" then means that it stands there. An object that tells its contents tells them after every
-//! call, and one that tells that it is calm stays calm.
+//! Each has a count of its faults, which is at most `2^64 - 1`, and stands at that value once it is there; "the count
+//! rose" then means that it stands there. A call that answers `Failed` raises it, and every other call leaves it as it
+//! was. An object that tells its contents tells them after every call, and one that tells that it is calm stays calm.
 ghost use Rattle.std.specs.Prelude.{List, ℕ, Result};
 ghost use Rattle.std.specs.Result.{result_map_both};
 ghost use Rattle.br_outside.specs.Outside.{ShelfView, StreamView, Fetched, Stored, Took, Gave};
@@ -17,7 +17,7 @@ pub trait Shelf {
     /// The content of a name, of at most `limit` bytes. No content changes.
     ///
     /// - `Failed` comes only where the count rose: at a fault, and where there is no such name. On a calm shelf that
-    ///   tells its files it comes exactly where there is no such name, and the count stands still at every other call.
+    ///   tells its files it comes exactly where there is no such name.
     /// - `TooLong`, on a shelf that tells its files, comes exactly where the call did not fail and the content has
     ///   more than `limit` bytes.
     /// - `Memory` comes only for a content that is there and no longer than that.

@@ -1,4 +1,4 @@
--- The words of code, at each width.
+-- CF and OF of sums and differences as code computes them, at each width.
 use Rattle.std.proofs.Common.{◌≡◌, ℕ, ◌+◌, ◌-◌, ◌/◌, ◌%◌, ◌^◌, ◌<◌, ◌≤◌, Bool, true, false, ap, ◌∙◌, refl, arith}
 use Rattle.std.specs.Prelude.{pos, ◌+ℤ◌, ◌-ℤ◌, nat_le, nat_eq, bit_and, bit_xor}
 use Rattle.br_word.specs.declared.types.Width.{Width}

@@ -10,25 +10,32 @@ pub data RunState : Type 0 where
   Exited : ℕ → RunState
   Faulted : GuestFault → RunState
 
--- what an instruction sees besides memory and its own address
+-- what an instruction sees besides memory and its own address (SDM volume 1, 3.4.1 and 3.4.3)
 pub record Processor : Type 0 where
-  -- eax, ecx, edx, ebx, esp, ebp, esi, edi
+  -- eax, ecx, edx, ebx, esp, ebp, esi, edi, each below 2 ^ 32
   pub regs : List ℕ
+  -- the status flags
   pub flags : Flags
+  -- the direction flag
   pub df : Bool
   -- which of the flags are defined
   pub marks : Flags
 
+-- all that a guest's next step depends on, and what it has written
 pub record State : Type 0 where
+  -- the address of the next instruction, below 2 ^ 32 (SDM volume 1, 3.5)
   pub eip : ℕ
   pub cpu : Processor
+  -- the segments of its file, the heap and the stack
   pub regions : List Region
+  -- where the heap starts, and where it ends now
   pub brk_start : ℕ
   pub brk : ℕ
   -- what is left of the input, and what was written to descriptors 1 and 2
   pub input : List ℕ
   pub out : List ℕ
   pub err : List ℕ
+  -- whether it goes on
   pub stop : RunState
 
 -- the general registers by name (SDM volume 1, 3.4.1)
@@ -60,6 +67,7 @@ edi s = get_or s.cpu.regs 7 0
 pub data Flag : Type 0 where
   CF PF ZF SF OF : Flag
 
+-- one flag of five
 abbrev pub flag_of : Flag → Flags → Bool
 flag_of CF f = f.cf
 flag_of PF f = f.pf
@@ -67,5 +75,6 @@ flag_of ZF f = f.zf
 flag_of SF f = f.sf
 flag_of OF f = f.of
 
+-- each flag so
 abbrev pub all_flags : Bool → Flags
 all_flags b = record { cf = b; pf = b; zf = b; sf = b; of = b }

@@ -11,16 +11,22 @@ use crate::types::{Flags, ShiftOp, Width};
 /// A sum or a difference modulo 2 to the width, and its flags.
 #[derive(Clone, Copy, Debug, PartialEq, Eq)]
 pub struct Sum {
+    /// The result, below 2 to the width.
     pub value: u32,
+    /// CF and OF as `add_flags` and `sub_flags` say; PF, ZF and SF of the result.
     pub flags: Flags,
 }
 
 /// A shifted value, its flags, and whether CF and OF are defined.
 #[derive(Clone, Copy, Debug, PartialEq, Eq)]
 pub struct Shifted {
+    /// The shifted number, below 2 to the width.
     pub value: u32,
+    /// CF, OF, and PF, ZF and SF of the shifted number.
     pub flags: Flags,
+    /// Whether CF is defined: always for SAR, below the width for SHL and SHR (SDM volume 2, SAL/SAR/SHL/SHR).
     pub cf_known: bool,
+    /// Whether OF is defined: for a count of 1.
     pub of_known: bool,
 }
 
@@ -118,6 +124,7 @@ fn sar(w: Width, a: u32, count: u32) -> u32
     }
 }
 
+/// A number of the width shifted by less than 32.
 fn shift_word(op: ShiftOp, w: Width, a: u32, count: u32) -> u32
     requires a_fits { a < 2 ^ bits_of w }
     requires count_fits { count < 32 }

@@ -7,6 +7,7 @@ use Rattle.std.specs.Prelude.{if◌then◌else◌}
 use Rattle.br_word.specs.Memory.{zeros}
 use Rattle.elf_read.specs.declared.exe.Segment.{Segment}
 use Rattle.elf_read.specs.declared.header.Header.{Header}
+use Rattle.elf_read.specs.declared.limits.TheConstants.{HIGHEST_END}
 use Rattle.elf_read.specs.Elf.{AreSegments, in_segment, end_of_last}
 use Rattle.elf_read.specs.Code.{segment_bytes, code_at}
 use Rattle.elf_read.proofs.Numbers.{length_zeros}
@@ -23,7 +24,7 @@ next_is i ss s h e =
     let n : suc i ≡ i + 1 = omega arith in
     drop-cons ss i s h ∙ ap (λ x. x ∷ drop (suc i) ss) (sym e) ∙ ap (λ n. s ∷ drop n ss) n
 
-pub last_bound : (low : ℕ) (ss : List Segment) → AreSegments low ss → end_of_last ss ≤ 0xA0000000
+pub last_bound : (low : ℕ) (ss : List Segment) → AreSegments low ss → end_of_last ss ≤ HIGHEST_END
 last_bound low [] h = omega arith
 last_bound low (s ∷ []) h = h.0.high
 last_bound low (s ∷ t ∷ ss) h = last_bound low (t ∷ ss) h.1

@@ -5,13 +5,18 @@ ghost use Rattle.elf_read.specs.Reads.{fails};
 
 use crate::exe::Reach;
 use crate::header::{Header, has_memory, permissions};
+use crate::limits::{GUEST_LOWEST, HIGHEST_END, ORIGINAL_LOWEST};
 
-/// What no program header may be.
+/// What no program header may be (refusals 7, 8, 9 and 12, docs/FILES.md).
 #[derive(Clone, Copy)]
 pub enum Check {
+    /// Of type PT_DYNAMIC, PT_INTERP or PT_TLS.
     OtherKind,
+    /// Loaded, writable and executable at once.
     WritesCode,
+    /// Loaded, and outside the addresses of such an executable or past the end of the file.
     IsOutside(Reach),
+    /// Of type PT_LOAD, with more bytes in the file than in memory.
     HasMoreBytes,
 }
 
@@ -19,8 +24,8 @@ fn lowest_address(reach: Reach) -> u32
     ensures { result ≡ lowest reach }
 {
     match reach {
-        Reach::Original => 0x08000000,
-        Reach::Guest => 0x01000000,
+        Reach::Original => ORIGINAL_LOWEST,
+        Reach::Guest => GUEST_LOWEST,
     }
 }
 
@@ -42,7 +47,7 @@ fn reaches_outside(reach: Reach, total: u32, header: &Header) -> bool
     ensures { result ≡ is_outside reach total header.now }
 {
     header.vaddr < lowest_address(reach)
-        || header.vaddr as u64 + header.memsz as u64 > 0xA0000000
+        || header.vaddr as u64 + header.memsz as u64 > HIGHEST_END as u64
         || (0 < header.filesz && header.offset as u64 + header.filesz as u64 > total as u64)
 }
 

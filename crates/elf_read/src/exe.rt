@@ -26,12 +26,14 @@ impl Bytes {
         Bytes { items }
     }
 
+    /// The bytes.
     pub fn as_slice(&self) -> &[u8]
         ensures { result.now ≡ self.now }
     {
         self.items.as_slice()
     }
 
+    /// How many bytes there are.
     pub fn len(&self) -> usize
         ensures { result ≡ length self.now }
     {
@@ -49,12 +51,15 @@ impl Bytes {
 /// A loaded segment (ELF, program header of type PT_LOAD).
 #[derive(Drop)]
 pub struct Segment {
-    /// Its lowest address.
+    /// Its lowest address (p_vaddr), from [`GUEST_LOWEST`](crate::GUEST_LOWEST) up.
     pub start: u32,
-    /// How many bytes it has in memory.
+    /// How many bytes it has in memory (p_memsz), at least one. It ends at
+    /// [`HIGHEST_END`](crate::HIGHEST_END) at the latest.
     pub size: u32,
+    /// Which accesses are allowed (p_flags): never writing and executing both.
     pub perms: Perms,
-    /// The bytes of the file, at most `size`: those after them are zero in memory.
+    /// The bytes of the file (p_filesz of them, from p_offset on), at most `size`: those after them are zero
+    /// in memory.
     pub bytes: Bytes,
 }
 
@@ -83,12 +88,14 @@ impl Segments {
         Segments { items }
     }
 
+    /// The segments, in the order of their headers.
     pub fn as_slice(&self) -> &[Segment]
         ensures { result.now ≡ self.now }
     {
         self.items.as_slice()
     }
 
+    /// How many segments there are, at most [`GUEST_SEGMENT_LIMIT`](crate::GUEST_SEGMENT_LIMIT) in what is read.
     pub fn len(&self) -> usize
         ensures { result ≡ length self.now }
     {
@@ -103,21 +110,27 @@ impl Segments {
     }
 }
 
-/// An executable.
+/// An executable that a file holds (ELF, ELF header).
 #[derive(Drop)]
 pub struct Exe {
-    /// Where it begins to run.
+    /// Where it begins to run (e_entry): an address in an executable segment.
     pub entry: u32,
+    /// Its loaded segments: each starts at or above the end of the one before it.
     pub segments: Segments,
-    /// The end of the last segment, rounded up to a multiple of 4096: where the heap begins.
+    /// The end of the last segment, rounded up to a multiple of 4096: where the heap begins, at most
+    /// [`HIGHEST_END`](crate::HIGHEST_END).
     pub brk_start: u32,
 }
 
 /// Which executables are accepted.
 #[derive(Clone, Copy, Debug, PartialEq, Eq, Drop)]
 pub enum Reach {
-    /// One that is to be recompiled: from 0x08000000 up, at most 64 segments and 67108864 bytes in memory.
+    /// One that is to be recompiled: from [`ORIGINAL_LOWEST`](crate::ORIGINAL_LOWEST) up, at most
+    /// [`ORIGINAL_SEGMENT_LIMIT`](crate::ORIGINAL_SEGMENT_LIMIT) segments and
+    /// [`ORIGINAL_MEMORY_LIMIT`](crate::ORIGINAL_MEMORY_LIMIT) bytes in memory.
     Original,
-    /// One that is only run: from 0x01000000 up, at most 66 segments and 268435456 bytes in memory.
+    /// One that is only run: from [`GUEST_LOWEST`](crate::GUEST_LOWEST) up, at most
+    /// [`GUEST_SEGMENT_LIMIT`](crate::GUEST_SEGMENT_LIMIT) segments and
+    /// [`GUEST_MEMORY_LIMIT`](crate::GUEST_MEMORY_LIMIT) bytes in memory.
     Guest,
 }

@@ -20,6 +20,7 @@ pub fn part(bytes: &[u8], at: usize, count: usize) -> &[u8]
     &rest[..count.min(rest.len())]
 }
 
+/// The 16-bit number at an offset.
 pub fn half_at(bytes: &[u8], at: usize) -> u16
     requires { at + 2 ≤ length bytes.now }
     ensures { result ≡ field 2 at bytes.now }
@@ -27,6 +28,7 @@ pub fn half_at(bytes: &[u8], at: usize) -> u16
     LittleEndian::read_u16(tail(bytes, at))
 }
 
+/// The 32-bit number at an offset.
 pub fn word_at(bytes: &[u8], at: usize) -> u32
     requires { at + 4 ≤ length bytes.now }
     ensures { result ≡ field 4 at bytes.now }

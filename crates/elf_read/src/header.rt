@@ -8,22 +8,32 @@ use br_word::Perms;
 /// A program header, as far as it is read, and its place in the file.
 #[derive(Drop)]
 pub struct Header {
+    /// The offset of the header in the file.
     pub place: u32,
+    /// p_type: 1 is PT_LOAD.
     pub kind: u32,
+    /// p_offset: where its bytes begin in the file.
     pub offset: u32,
+    /// p_vaddr: its lowest address.
     pub vaddr: u32,
+    /// p_filesz: how many bytes it has in the file.
     pub filesz: u32,
+    /// p_memsz: how many it has in memory.
     pub memsz: u32,
+    /// p_flags: the permissions.
     pub flags: u32,
 }
 
-/// Where the program headers of a file lie.
+/// Where the program headers of a file lie (ELF header, e_phoff and e_phnum).
 #[derive(Clone, Copy)]
 pub struct Table {
+    /// The offset of the first.
     pub start: u32,
+    /// How many there are, 32 bytes each.
     pub count: u32,
 }
 
+/// The program header at a place.
 pub fn read_header(bytes: &[u8], place: u32) -> Header
     requires { place + 32 ≤ length bytes.now }
     ensures { result ≡ header_at place (drop place bytes.now) }

@@ -1,5 +1,6 @@
 //! The segments of a file.
 ghost use Rattle.std.specs.Prelude.{◌≡◌, ◌≤◌, length, map, IfOk};
+ghost use Rattle.elf_read.specs.declared.limits.TheConstants.{GUEST_FILE_LIMIT, HIGHEST_END};
 ghost use Rattle.elf_read.specs.Elf.{loaded, segment_of, end_of_last, round_up};
 ghost use Rattle.elf_read.specs.Reads.{IsTable};
 
@@ -22,7 +23,7 @@ fn load_segment(alloc: Global, bytes: &[u8], header: &Header) -> Result<Segment,
 
 /// The segments of the loaded headers.
 pub fn load_segments(alloc: Global, bytes: &[u8], table: Table) -> Result<Vec<Segment>, AllocError>
-    requires size { length bytes.now ≤ 268435456 }
+    requires size { length bytes.now ≤ GUEST_FILE_LIMIT }
     requires table { IsTable bytes.now table }
     ensures { IfOk result (λ v. v.items ≡ map (segment_of bytes.now) (loaded bytes.now)) }
 {
@@ -38,7 +39,7 @@ pub fn load_segments(alloc: Global, bytes: &[u8], table: Table) -> Result<Vec<Se
 
 /// The end of the last segment, rounded up to a multiple of 4096.
 pub fn heap_start(segments: &[Segment]) -> u32
-    requires { end_of_last segments.now ≤ 0xA0000000 }
+    requires { end_of_last segments.now ≤ HIGHEST_END }
     ensures { result ≡ round_up (end_of_last segments.now) }
 {
     let count = segments.len();

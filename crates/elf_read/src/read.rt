@@ -1,6 +1,7 @@
 //! Files are read.
 ghost use Rattle.std.specs.Prelude.{◌≡◌, ◌+◌, ◌≤◌, not, [], ◌∷◌, length, take, IfOk};
 ghost use Rattle.elf_read.specs.declared.exe.Reach.TheVariants.{Original};
+ghost use Rattle.elf_read.specs.declared.limits.TheConstants.{GUEST_FILE_LIMIT};
 ghost use Rattle.elf_read.specs.Elf.{wrong_magic, wrong_version, wrong_field, wrong_table, place_if, holds_entry, field, loaded, refusals, table_refusals, first_refused, IsExe};
 ghost use Rattle.elf_read.specs.Reads.{ReadsElf, Says, IsTable};
 
@@ -86,7 +87,7 @@ fn table_place(bytes: &[u8]) -> Option<u32>
 
 /// The refusals 1 to 6, and where the program headers lie.
 fn check_file(bytes: &[u8]) -> Result<Table, ElfError>
-    requires { length bytes.now ≤ 268435456 }
+    requires { length bytes.now ≤ GUEST_FILE_LIMIT }
     ensures refused { Says result (first_refused 1 (take 6 (refusals Original bytes.now))) }
     ensures table { IfOk result (IsTable bytes.now) }
     ensures long { IfOk result (λ _. 52 ≤ length bytes.now) }
@@ -109,7 +110,7 @@ fn check_file(bytes: &[u8]) -> Result<Table, ElfError>
 }
 
 fn entry_place(bytes: &[u8], table: Table) -> Option<u32>
-    requires size { length bytes.now ≤ 268435456 }
+    requires size { length bytes.now ≤ GUEST_FILE_LIMIT }
     requires long { 52 ≤ length bytes.now }
     requires table { IsTable bytes.now table }
     ensures { result ≡ place_if (not (holds_entry (field 4 24 bytes.now) (loaded bytes.now))) 24 None }
@@ -123,7 +124,7 @@ fn entry_place(bytes: &[u8], table: Table) -> Option<u32>
 
 /// The refusals 7 to 13.
 fn check_table(bytes: &[u8], table: Table, reach: Reach) -> Result<(), ElfError>
-    requires size { length bytes.now ≤ 268435456 }
+    requires size { length bytes.now ≤ GUEST_FILE_LIMIT }
     requires long { 52 ≤ length bytes.now }
     requires table { IsTable bytes.now table }
     ensures { Says result (first_refused 7 (table_refusals reach bytes.now)) }
@@ -138,12 +139,13 @@ fn check_table(bytes: &[u8], table: Table, reach: Reach) -> Result<(), ElfError>
 }
 
 /// The executable that a file holds, as an original or as a guest (docs/FILES.md; System V ABI,
-/// chapters 4 and 5). The bytes of its segments are copied once. `bytes` has at most 268435456 bytes.
+/// chapters 4 and 5). The bytes of its segments are copied once. `bytes` has at most
+/// [`GUEST_FILE_LIMIT`](crate::GUEST_FILE_LIMIT) bytes.
 ///
 /// Errors: [`ElfError::Refused`] exactly where the file is refused, with the lowest number of a refusal
 /// that holds and its place. [`ElfError::Memory`] for want of memory, only for a file that is accepted.
 pub fn read_elf(alloc: Global, bytes: &[u8], reach: Reach) -> Result<Exe, ElfError>
-    requires { length bytes.now ≤ 268435456 }
+    requires { length bytes.now ≤ GUEST_FILE_LIMIT }
     ensures read { ReadsElf reach bytes.now result }
     ensures fields { IfOk result (IsExe reach) }
 {

@@ -1,15 +1,19 @@
 //! The checks of all program headers, one walk each.
 ghost use Rattle.std.specs.Prelude.{◌≡◌, ◌≤◌, [], ◌∷◌, length};
+ghost use Rattle.elf_read.specs.declared.limits.TheConstants.{GUEST_FILE_LIMIT};
 ghost use Rattle.elf_read.specs.Elf.{loaded, first_below, holds_entry, first_past, most_segments, most_memory};
 ghost use Rattle.elf_read.specs.Reads.{IsTable, failed_at};
 
 use crate::check::{Check, is_failed};
 use crate::exe::Reach;
 use crate::header::{Header, Table, has_memory, permissions, read_header};
+use crate::limits::{
+    GUEST_MEMORY_LIMIT, GUEST_SEGMENT_LIMIT, ORIGINAL_MEMORY_LIMIT, ORIGINAL_SEGMENT_LIMIT,
+};
 
 /// The place of the first header at which a check fails.
 pub fn failing_place(bytes: &[u8], table: Table, check: Check) -> Option<u32>
-    requires size { length bytes.now ≤ 268435456 }
+    requires size { length bytes.now ≤ GUEST_FILE_LIMIT }
     requires table { IsTable bytes.now table }
     ensures { result ≡ failed_at check bytes.now }
 {
@@ -24,7 +28,7 @@ pub fn failing_place(bytes: &[u8], table: Table, check: Check) -> Option<u32>
 
 /// The place of the first loaded header that starts below the end of the one before it.
 pub fn unordered_place(bytes: &[u8], table: Table) -> Option<u32>
-    requires size { length bytes.now ≤ 268435456 }
+    requires size { length bytes.now ≤ GUEST_FILE_LIMIT }
     requires table { IsTable bytes.now table }
     ensures { result ≡ first_below 0 (loaded bytes.now) }
 {
@@ -51,7 +55,7 @@ fn is_entry(header: &Header, entry: u32) -> bool
 
 /// Whether an address lies in a loaded header with PF_X.
 pub fn is_in_code(bytes: &[u8], table: Table, entry: u32) -> bool
-    requires size { length bytes.now ≤ 268435456 }
+    requires size { length bytes.now ≤ GUEST_FILE_LIMIT }
     requires table { IsTable bytes.now table }
     ensures { result ≡ holds_entry entry (loaded bytes.now) }
 {
@@ -68,8 +72,8 @@ fn segment_limit(reach: Reach) -> u32
     ensures { result ≡ most_segments reach }
 {
     match reach {
-        Reach::Original => 64,
-        Reach::Guest => 66,
+        Reach::Original => ORIGINAL_SEGMENT_LIMIT,
+        Reach::Guest => GUEST_SEGMENT_LIMIT,
     }
 }
 
@@ -77,14 +81,14 @@ fn memory_limit(reach: Reach) -> u32
     ensures { result ≡ most_memory reach }
 {
     match reach {
-        Reach::Original => 67108864,
-        Reach::Guest => 268435456,
+        Reach::Original => ORIGINAL_MEMORY_LIMIT,
+        Reach::Guest => GUEST_MEMORY_LIMIT,
     }
 }
 
 /// The place of the first loaded header past the limits of number and memory.
 pub fn excess_place(bytes: &[u8], table: Table, reach: Reach) -> Option<u32>
-    requires size { length bytes.now ≤ 268435456 }
+    requires size { length bytes.now ≤ GUEST_FILE_LIMIT }
     requires table { IsTable bytes.now table }
     ensures { result ≡ first_past (most_segments reach) (most_memory reach) (loaded bytes.now) }
 {

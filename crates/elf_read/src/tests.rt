@@ -1,5 +1,6 @@
 //! Files that are accepted and files that are refused. The expected answers were written by hand.
 ghost use Rattle.std.specs.Prelude.{◌≡◌, ◌≤◌, ◌<◌, length};
+ghost use Rattle.elf_read.specs.declared.limits.TheConstants.{GUEST_FILE_LIMIT};
 
 use crate::{ElfError, Reach, exec_bytes, in_exec, read_elf};
 use byteorder::{ByteOrder, LittleEndian};
@@ -17,7 +18,7 @@ const HELLO: [u8; 121] = [
 
 /// The number and the place of a refusal, (0, 0) for a file that is accepted.
 fn answer(rt: &HostRuntime, bytes: &[u8], reach: Reach) -> (u8, u32)
-    requires { length bytes.now ≤ 268435456 }
+    requires { length bytes.now ≤ GUEST_FILE_LIMIT }
 {
     match read_elf(rt.alloc(), bytes, reach) {
         Ok(_) => (0, 0),

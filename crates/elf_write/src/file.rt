@@ -1,6 +1,7 @@
 //! Files of segments.
 ghost use Rattle.std.specs.Prelude.{◌≡◌, ◌+◌, ◌*◌, ◌≤◌, ◌^◌, [], ◌++◌, length, Ok, OnOk, IfOk};
 ghost use Rattle.elf_read.specs.declared.exe.Reach.TheVariants.{Guest};
+ghost use Rattle.elf_read.specs.declared.limits.TheConstants.{GUEST_LOWEST};
 ghost use Rattle.elf_read.specs.Elf.{AreSegments, sizes, elf, exe_of};
 ghost use Rattle.elf_write.specs.File.{end_of_all, program_headers, pieces, file_header, file_of, IsWritable};
 
@@ -11,7 +12,7 @@ use std::alloc::{AllocError, Global};
 
 /// Where the file ends after the bytes of these segments, if it ended at `start` before them.
 fn end_of_pieces(start: u32, segments: &[Segment]) -> u32
-    requires each { AreSegments 0x01000000 segments.now }
+    requires each { AreSegments GUEST_LOWEST segments.now }
     requires room { start + 4096 * length segments.now + sizes segments.now ≤ 2 ^ 31 }
     ensures value { result ≡ end_of_all start segments.now }
     ensures bound { result ≤ start + 4096 * length segments.now + sizes segments.now }
@@ -25,7 +26,7 @@ fn end_of_pieces(start: u32, segments: &[Segment]) -> u32
 
 /// The headers of segments whose bytes begin at `start`.
 fn push_headers(out: &mut Vec<u8>, start: u32, segments: &[Segment]) -> Result<(), AllocError>
-    requires each { AreSegments 0x01000000 segments.now }
+    requires each { AreSegments GUEST_LOWEST segments.now }
     requires room { start + 4096 * length segments.now + sizes segments.now ≤ 2 ^ 31 }
     ensures { OnOk result (out.new.items ≡ out.old.items ++ program_headers start segments.now []) }
 {
@@ -39,7 +40,7 @@ fn push_headers(out: &mut Vec<u8>, start: u32, segments: &[Segment]) -> Result<(
 
 /// The bytes of segments, which begin at `start`.
 fn push_pieces(out: &mut Vec<u8>, start: u32, segments: &[Segment]) -> Result<(), AllocError>
-    requires each { AreSegments 0x01000000 segments.now }
+    requires each { AreSegments GUEST_LOWEST segments.now }
     requires room { start + 4096 * length segments.now + sizes segments.now ≤ 2 ^ 31 }
     ensures { OnOk result (out.new.items ≡ out.old.items ++ pieces start segments.now) }
 {
@@ -51,6 +52,7 @@ fn push_pieces(out: &mut Vec<u8>, start: u32, segments: &[Segment]) -> Result<()
     Ok(())
 }
 
+/// The ELF header of so many segments, with its program headers right behind it.
 #[tactic(auto, unfolding(br_word::specs::Memory::bytes_of))]
 fn push_file_header(out: &mut Vec<u8>, count: u16, entry: u32) -> Result<(), AllocError>
     ensures { OnOk result (out.new.items ≡ out.old.items ++ file_header count entry []) }
@@ -66,7 +68,13 @@ fn push_file_header(out: &mut Vec<u8>, count: u16, entry: u32) -> Result<(), All
 }
 
 /// The file of these segments, with the entry at an address (docs/FILES.md; System V ABI, chapters 4
-/// and 5). Read as a guest it gives the same segments and entry. The only error is for want of memory.
+/// and 5). Read as a guest it gives the same segments and entry.
+///
+/// There are at most [`GUEST_SEGMENT_LIMIT`](elf_read::GUEST_SEGMENT_LIMIT) segments, which ascend and have
+/// at most [`GUEST_MEMORY_LIMIT`](elf_read::GUEST_MEMORY_LIMIT) bytes in memory together, and the entry lies
+/// in an executable one.
+///
+/// Errors: only for want of memory.
 pub fn write_elf(alloc: Global, segments: &[Segment], entry: u32) -> Result<Vec<u8>, AllocError>
     requires { IsWritable segments.now entry }
     ensures file { IfOk result (λ file. file.items ≡ file_of segments.now entry) }
@@ -78,6 +86,8 @@ pub fn write_elf(alloc: Global, segments: &[Segment], entry: u32) -> Result<Vec<
 /// The file of the segments of `first` and then those of `rest`, as [`write_elf`] writes it of one
 /// slice: for segments of which some are borrowed from an executable. It takes memory for the file
 /// alone, once.
+///
+/// Errors: only for want of memory.
 pub fn write_joined(
     alloc: Global,
     first: &[Segment],

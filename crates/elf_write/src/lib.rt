@@ -1,4 +1,4 @@
-//! Writes static i386 ELF executables.
+//! Writes static i386 ELF executables (docs/FILES.md; System V ABI, chapters 4 and 5).
 #![tactic(auto)]
 
 mod file;

@@ -5,6 +5,7 @@ ghost use Rattle.br_word.specs.Memory.{bytes_of, zeros};
 use byteorder::{ByteOrder, LittleEndian};
 use std::alloc::AllocError;
 
+/// Appends a 32-bit number.
 #[tactic(auto, unfolding(br_word::specs::Memory::bytes_of))]
 pub fn push_word(out: &mut Vec<u8>, value: u32) -> Result<(), AllocError>
     ensures { OnOk result (out.new.items ≡ out.old.items ++ bytes_of 4 value) }
@@ -14,6 +15,7 @@ pub fn push_word(out: &mut Vec<u8>, value: u32) -> Result<(), AllocError>
     out.extend_from_slice(&bytes)
 }
 
+/// Appends a 16-bit number.
 #[tactic(auto, unfolding(br_word::specs::Memory::bytes_of))]
 pub fn push_half(out: &mut Vec<u8>, value: u16) -> Result<(), AllocError>
     ensures { OnOk result (out.new.items ≡ out.old.items ++ bytes_of 2 value) }
@@ -23,6 +25,7 @@ pub fn push_half(out: &mut Vec<u8>, value: u16) -> Result<(), AllocError>
     out.extend_from_slice(&bytes)
 }
 
+/// Appends so many zeros.
 #[tactic(auto, unfolding(br_word::specs::Memory::zeros))]
 pub fn push_zeros(out: &mut Vec<u8>, count: u32) -> Result<(), AllocError>
     ensures { OnOk result (out.new.items ≡ out.old.items ++ zeros count) }

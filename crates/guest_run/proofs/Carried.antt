@@ -20,7 +20,7 @@ use Rattle.ia_meaning.specs.declared.cpu.Cpu.{Cpu}
 use Rattle.ia_meaning.specs.declared.cpu.Outcome.TheVariants as outcome
 use Rattle.ia_meaning.specs.Effect.{view, Comes, some_unmarked}
 use Rattle.guest_sys.specs.declared.answers.SysError.{SysError}
-use Rattle.guest_sys.specs.Streams.{Streams, Tells}
+use Rattle.br_outside.specs.Streams.{Streams, Tells}
 use Rattle.guest_sys.specs.Machine.{Machine, state_of, fed}
 use Rattle.guest_sys.specs.Calls.{Passes}
 use Rattle.guest_sys.proofs.Done.{had, told_had, leaves_same, gains_none}

@@ -5,7 +5,7 @@ use Rattle.br_word.specs.Words.{bit}
 use Rattle.br_word.specs.State.{State, RunState, Running, Exited, Faulted}
 use Rattle.ia_inst.specs.Step.{unless_stopped, settled, step_result, step}
 use Rattle.br_outside.specs.Outside.{StreamView}
-use Rattle.guest_sys.specs.Streams.{Streams, WasGiven, Leaves, Gains}
+use Rattle.br_outside.specs.Streams.{Streams, WasGiven, Leaves, Gains}
 use Rattle.guest_sys.specs.Machine.{fed, bare}
 use Rattle.guest_sys.specs.Calls.{spare, Passes}
 use Rattle.guest_sys.proofs.Taken.{steady_then}

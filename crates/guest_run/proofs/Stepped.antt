@@ -5,7 +5,7 @@ use Rattle.ia_inst.specs.Step.{Found, NoCode, NoInst, There, found, result_at, s
 use Rattle.guest_mem.specs.View.{MemoryView}
 use Rattle.ia_meaning.specs.declared.cpu.Cpu.{Cpu}
 use Rattle.guest_sys.specs.declared.answers.SysError.{SysError}
-use Rattle.guest_sys.specs.Streams.{Streams}
+use Rattle.br_outside.specs.Streams.{Streams}
 use Rattle.guest_sys.specs.Machine.{state_of, fed, bare}
 use Rattle.guest_sys.proofs.Done.{had, told_had}
 use Rattle.guest_run.specs.declared.stop.Stop as answer

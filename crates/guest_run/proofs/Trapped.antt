@@ -11,7 +11,7 @@ use Rattle.guest_sys.specs.declared.answers.Called.{Called}
 use Rattle.guest_sys.specs.declared.answers.Called.TheVariants.{Goes, Exit, Fault}
 use Rattle.guest_sys.specs.declared.answers.SysError.{SysError}
 use Rattle.guest_sys.specs.declared.answers.SysError.TheVariants.{Input, Out, Report, Memory}
-use Rattle.guest_sys.specs.Streams.{Streams}
+use Rattle.br_outside.specs.Streams.{Streams}
 use Rattle.guest_sys.specs.Machine.{machine, state_of, fed}
 use Rattle.guest_sys.specs.Calls.{asks, takes_memory, after_call, spare, Passes, Does, InputFails, SinkFails, MemoryFails, FailsAt, CallGives, Calls}
 use Rattle.guest_sys.specs.Calls as calls

@@ -6,7 +6,7 @@ use Rattle.ia_inst.specs.Step.{step}
 use Rattle.br_outside.specs.Outside.{StreamView}
 use Rattle.guest_sys.specs.declared.answers.SysError.{SysError}
 use Rattle.guest_sys.specs.declared.answers.SysError.TheVariants.{Input, Out, Report, Memory}
-use Rattle.guest_sys.specs.Streams.{Streams, Steady, Tells, WasGiven, Leaves, Gains}
+use Rattle.br_outside.specs.Streams.{Streams, Steady, Tells, WasGiven, Leaves, Gains}
 use Rattle.guest_sys.specs.Machine.{fed, bare}
 use Rattle.guest_sys.specs.Calls.{spare, Passes, Unwritten, FailsAt}
 use Rattle.guest_sys.proofs.Taken.{steady_same, steady_then, fails_then}

@@ -7,7 +7,7 @@ use Rattle.ia_inst.specs.System.{system}
 use Rattle.ia_inst.specs.Step.{Found, NoCode, NoInst, There, result_at, settled, asked_at}
 use Rattle.ia_meaning.specs.Effect.{some_unmarked}
 use Rattle.guest_sys.specs.declared.answers.SysError.{SysError}
-use Rattle.guest_sys.specs.Streams.{Tells}
+use Rattle.br_outside.specs.Streams.{Tells}
 use Rattle.guest_sys.specs.Machine.{Machine, state_of, fed, bare}
 use Rattle.guest_sys.specs.Calls.{takes_memory, spare, Passes, FailsAt}
 use Rattle.guest_run.specs.declared.advance.Advanced.{Advanced}

@@ -9,7 +9,7 @@ use Rattle.ia_meaning.specs.Effect.{some_unmarked}
 use Rattle.br_outside.specs.Outside.{StreamView}
 use Rattle.guest_sys.specs.declared.answers.SysError.{SysError}
 use Rattle.guest_sys.specs.declared.answers.SysError.TheVariants.{Input, Out, Report, Memory}
-use Rattle.guest_sys.specs.Streams.{Streams, Steady, Fails, Tells, HasLeft, WasGiven, Leaves, Gains}
+use Rattle.br_outside.specs.Streams.{Streams, Steady, Fails, Tells, HasLeft, WasGiven, Leaves, Gains}
 use Rattle.guest_mem.specs.View.{MemoryView}
 use Rattle.ia_meaning.specs.declared.cpu.Cpu.{Cpu}
 use Rattle.guest_sys.specs.Machine.{state_of, fed, bare}

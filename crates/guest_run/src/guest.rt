@@ -2,7 +2,7 @@
 ghost use Rattle.std.specs.Prelude.{◌≡◌, ◌+◌, ◌<◌, ◌≤◌, ◌^◌, true, IsTrue, ◌↔◌, map, string_bytes, IfOk};
 ghost use Rattle.elf_read.specs.Elf.{IsGuest};
 ghost use Rattle.br_word.specs.State.{all_flags};
-ghost use Rattle.guest_sys.specs.Streams.{Streams};
+ghost use Rattle.br_outside.specs.Streams.{Streams};
 ghost use Rattle.run_model.specs.Opening.{FitArguments};
 ghost use Rattle.guest_run.specs.Guest.{StepCall, Runs, beginning, streams, answer_of};
 

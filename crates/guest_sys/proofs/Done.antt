@@ -14,7 +14,7 @@ use Rattle.guest_sys.specs.declared.answers.Called.{Called}
 use Rattle.guest_sys.specs.declared.answers.Called.TheVariants.{Goes, Exit, Fault}
 use Rattle.guest_sys.specs.declared.answers.SysError.{SysError}
 use Rattle.guest_sys.specs.declared.answers.SysError.TheVariants.{Input, Out, Report, Memory}
-use Rattle.guest_sys.specs.Streams.{Tells, Leaves, Gains}
+use Rattle.br_outside.specs.Streams.{Tells, Leaves, Gains}
 use Rattle.guest_sys.specs.Machine.{Machine, machine, state_of, fed, bare}
 use Rattle.guest_sys.specs.Calls.{asks, takes_memory, after_call, answer_of, Unwritten, CallGives, Calls}
 use Rattle.guest_sys.specs.Parts.{IsWanted, Takes, with_eax}

@@ -5,7 +5,7 @@ use Rattle.std.proofs.lemmas.Bool.Decides.{nat_tests}
 use Rattle.br_outside.specs.Outside.{StreamView, Took}
 use Rattle.guest_sys.specs.declared.answers.SysError.{SysError}
 use Rattle.guest_sys.specs.declared.answers.SysError.TheVariants.{Input, Out, Report, Memory}
-use Rattle.guest_sys.specs.Streams.{Steady, Fails}
+use Rattle.br_outside.specs.Streams.{Steady, Fails}
 use Rattle.guest_sys.specs.Parts.{TakesPiece, HasTakenMore, AddsPiece, Takes}
 
 -- these bytes were taken
@@ -14,13 +14,12 @@ pub record HasTaken (bytes : List ℕ) (old new : StreamView) : Type 0 where
   pub steady : Steady old new
 
 pub steady_same : (v : StreamView) → Steady v v
-steady_same v = record { calm = refl; later = omega arith; quiet = λ _. refl }
+steady_same v = record { calm = refl; same = refl }
 
 pub steady_then : (a b c : StreamView) → Steady a b → Steady b c → Steady a c
 steady_then a b c x y = record {
   calm = y.calm ∙ x.calm;
-  later = omega arith;
-  quiet = λ h. y.quiet (subst IsTrue (sym x.calm) h) ∙ x.quiet h;
+  same = y.same ∙ x.same;
 }
 
 pub fails_then : (a b c : StreamView) → Steady a b → Fails b c → Fails a c
@@ -80,7 +79,7 @@ piece_added old zs after rest all n room x y same keeps pos t e =
       λ more. rw len (grind (arith, nat_tests)),
       λ more. empty_take after n (grind (arith, nat_tests)),
       full_piece x.bytes (take n after) (length zs) y (omega arith) (subst P (sym len) t.gives.2),
-      record { calm = t.calm; later = t.later; quiet = t.gives.3 },
+      record { calm = t.calm; same = t.gives.3 },
     )
 
 lost_some : (o : Option (List ℕ)) (after : List ℕ) (n room : ℕ) (y : StreamView)
@@ -92,7 +91,7 @@ lost_some (Some left) after n room y h = h.1
 pub piece_lost : (old zs after all : List ℕ) (n room : ℕ) (x y : StreamView) → length zs ≡ room → Took zs after (Ok n) x y → AddsPiece room (Err Memory) old all x y
 piece_lost old zs after all n room x y same t =
     let le : n ≤ length zs = t.gives.0 in
-    (n, omega arith, lost_some x.bytes after n (length zs) y t.gives.2, record { calm = t.calm; later = t.later; quiet = t.gives.3 })
+    (n, omega arith, lost_some x.bytes after n (length zs) y t.gives.2, record { calm = t.calm; same = t.gives.3 })
 
 -- ---- all that is wanted
 

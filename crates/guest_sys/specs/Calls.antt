@@ -8,7 +8,7 @@ use Rattle.guest_sys.specs.declared.answers.Called.{Called}
 use Rattle.guest_sys.specs.declared.answers.Called.TheVariants.{Goes, Exit, Fault}
 use Rattle.guest_sys.specs.declared.answers.SysError.{SysError}
 use Rattle.guest_sys.specs.declared.answers.SysError.TheVariants.{Input, Out, Report, Memory}
-use Rattle.guest_sys.specs.Streams.{Streams, Steady, Fails, Tells, HasLeft, WasGiven, Leaves, Gains}
+use Rattle.br_outside.specs.Streams.{Streams, Steady, Fails, Tells, HasLeft, WasGiven, Leaves, Gains}
 use Rattle.guest_sys.specs.Machine.{Machine, state_of, fed, bare}
 
 -- how many bytes a call asks of the input: a read from descriptor 0, what edx says

@@ -1,4 +1,3 @@
-pub mod Streams
 pub mod Machine
 pub mod Calls
 pub mod Parts

@@ -5,7 +5,7 @@ use Rattle.br_outside.specs.Outside.{StreamView}
 use Rattle.guest_mem.specs.View.{MemoryView}
 use Rattle.ia_meaning.specs.declared.cpu.Cpu.{Cpu}
 use Rattle.ia_meaning.specs.Effect.{view}
-use Rattle.guest_sys.specs.Streams.{Streams}
+use Rattle.br_outside.specs.Streams.{Streams}
 
 pub record Machine : Type 0 where
   pub cpu : Cpu

@@ -12,7 +12,7 @@ use Rattle.guest_sys.specs.declared.answers.SysError.TheVariants.{Input, Memory}
 use Rattle.br_outside.specs.declared.errors.SinkError.{SinkError}
 use Rattle.br_outside.specs.declared.errors.SinkError.TheVariants as sink_errors
 use Rattle.guest_sys.specs.Calls.{SinkFails, Unwritten}
-use Rattle.guest_sys.specs.Streams.{Steady, Fails, Tells, HasLeft, Leaves, Gains}
+use Rattle.br_outside.specs.Streams.{Steady, Fails, Tells, HasLeft, Leaves, Gains}
 
 -- a piece of what a source has left was taken; an empty one means that nothing is left
 abbrev pub TakesPiece : List ℕ → StreamView → StreamView → Type 0

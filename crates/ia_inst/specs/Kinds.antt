@@ -34,6 +34,7 @@ pair_flags pair =
     if pair == 6 then SF ∷ OF ∷ [] else
     ZF ∷ SF ∷ OF ∷ []
 
+-- the flags of a condition by its number
 abbrev pub condition_flags : ℕ → List Flag
 condition_flags c = pair_flags (c / 2)
 

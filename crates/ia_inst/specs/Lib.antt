@@ -10,4 +10,5 @@ pub mod Act
 pub mod Meaning
 pub mod System
 pub mod Step
+pub mod Fits
 pub mod Kinds

@@ -28,11 +28,13 @@ wrap x = x % 2 ^ 32
 
 -- ---- registers and operands (SDM volume 1, 3.4.1 and 3.7.5)
 
+-- a register read at a width: of 8 bits, al, cl, dl, bl, ah, ch, dh, bh
 abbrev pub reg_value : Width → ℕ → List ℕ → ℕ
 reg_value B32 r regs = get_or regs r 0
 reg_value B16 r regs = get_or regs r 0 % 2 ^ 16
 reg_value B8 r regs = if nat_lt r 4 then get_or regs r 0 % 256 else get_or regs (r - 4) 0 / 256 % 256
 
+-- the registers after one is written: the other bits stay
 abbrev pub reg_with : Width → ℕ → ℕ → List ℕ → List ℕ
 reg_with B32 r v regs = set regs r v
 reg_with B16 r v regs = set regs r (get_or regs r 0 / 2 ^ 16 * 2 ^ 16 + v)
@@ -40,6 +42,7 @@ reg_with B8 r v regs = if nat_lt r 4
     then set regs r (get_or regs r 0 / 256 * 256 + v)
     else set regs (r - 4) (get_or regs (r - 4) 0 / 2 ^ 16 * 2 ^ 16 + v * 256 + get_or regs (r - 4) 0 % 256)
 
+-- the parts of an address, and their sum
 abbrev pub base_of : Option ℕ → List ℕ → ℕ
 base_of None regs = 0
 base_of (Some r) regs = get_or regs r 0
@@ -67,12 +70,15 @@ to_rm w (Mem a) v regs go = Store (address_of a regs) (size_of w) v (go regs)
 
 -- ---- flags
 
+-- every flag stays
 abbrev pub no_changes : Changes
 no_changes = record { cf = Keeps; pf = Keeps; zf = Keeps; sf = Keeps; of = Keeps }
 
+-- every flag is left undefined
 abbrev pub all_undefined : Changes
 all_undefined = record { cf = IsLeft; pf = IsLeft; zf = IsLeft; sf = IsLeft; of = IsLeft }
 
+-- every flag is set
 abbrev pub all_set : Flags → Changes
 all_set f = record { cf = Becomes f.cf; pf = Becomes f.pf; zf = Becomes f.zf; sf = Becomes f.sf; of = Becomes f.of }
 
@@ -80,6 +86,7 @@ all_set f = record { cf = Becomes f.cf; pf = Becomes f.pf; zf = Becomes f.zf; sf
 abbrev pub product_changes : Bool → Changes
 product_changes over = record all_undefined { cf = Becomes over; of = Becomes over }
 
+-- a flag is set where its value is known
 abbrev pub set_if : Bool → Bool → Change
 set_if known b = if known then Becomes b else IsLeft
 
@@ -88,6 +95,7 @@ pub record Result : Type 0 where
   pub value : ℕ
   pub changes : Changes
 
+-- a sum or a difference sets every flag
 abbrev pub of_sum : Sum → Result
 of_sum s = record { value = s.value; changes = all_set s.flags }
 
@@ -95,10 +103,11 @@ of_sum s = record { value = s.value; changes = all_set s.flags }
 abbrev pub of_step : Sum → Result
 of_step s = record { value = s.value; changes = record (all_set s.flags) { cf = Keeps } }
 
+-- AND, OR, XOR and TEST set every flag
 abbrev pub of_logic : Width → ℕ → Result
 of_logic w r = record { value = r; changes = all_set (logic_result w r) }
 
--- ADD, OR, ADC, SBB, AND, SUB, XOR, CMP
+-- ADD, OR, ADC, SBB, AND, SUB, XOR, CMP by their numbers
 abbrev pub alu : ℕ → Width → ℕ → ℕ → Bool → Result
 alu op w a b c =
     if op == 0 || op == 2 then of_sum (add_result w a b c) else
@@ -134,6 +143,7 @@ abbrev pub count_of : Count → List ℕ → ℕ
 count_of (count.Imm n) regs = n % 32
 count_of count.Cl regs = reg_value B8 1 regs % 32
 
+-- a shift sets every flag, but for those of CF and OF that it leaves undefined
 abbrev pub shift_changes : Shifted → Changes
 shift_changes r = record (all_set r.flags) { cf = set_if r.cf_known r.flags.cf; of = set_if r.of_known r.flags.of }
 
@@ -143,12 +153,14 @@ shifted op w a n =
     if n == 0 then record { value = a; changes = no_changes }
     else record { value = (shift_of op w a n).value; changes = shift_changes (shift_of op w a n) }
 
+-- CF is the bit that went round; OF is defined for a count of 1; the others stay
 abbrev pub rotate_changes : Bool → ℕ → ℕ → Changes
 rotate_changes right r n =
     let carry = if right then sign_bit 32 r else r % 2 == 1 in
     let over = if right then differ (sign_bit 32 r) (r / 2 ^ 30 % 2 == 1) else differ (sign_bit 32 r) carry in
     record no_changes { cf = Becomes carry; of = set_if (n == 1) over }
 
+-- a count of 0 keeps the value and the flags
 abbrev pub rotated : Bool → ℕ → ℕ → Result
 rotated right a n =
     let r = if right then rotated_right a n else rotated_left a n in
@@ -157,12 +169,14 @@ rotated right a n =
 
 -- ---- products and quotients of edx:eax
 
+-- edx:eax as one number, and the registers with it
 abbrev pub pair_of : List ℕ → ℕ
 pair_of regs = get_or regs 2 0 * 2 ^ 32 + get_or regs 0 0
 
 abbrev pub with_pair : ℕ → ℕ → List ℕ → List ℕ
 with_pair high low regs = set (set regs 0 low) 2 high
 
+-- quotient to eax and remainder to edx, or the divide error
 abbrev pub divides : Option (ℕ × ℕ) → ℕ → List ℕ → Bool → Act
 divides None n regs df = Divides
 divides (Some p) n regs df = Ends (with_pair p.1 p.0 regs) df all_undefined (Past n)
@@ -171,11 +185,14 @@ divides (Some p) n regs df = Ends (with_pair p.1 p.0 regs) df all_undefined (Pas
 abbrev pub muldiv : ℕ → ℕ → ℕ → List ℕ → Bool → Act
 muldiv op b n regs df =
     let a = get_or regs 0 0 in
-    if op == 4 then Ends (with_pair (product a b / 2 ^ 32) (product a b % 2 ^ 32) regs) df (product_changes (not (product a b / 2 ^ 32 == 0))) (Past n) else
-    if op == 5 then Ends (with_pair (signed_product a b / 2 ^ 32) (signed_product a b % 2 ^ 32) regs) df (product_changes (product_overflows a b)) (Past n) else
+    let p = product a b in
+    let s = signed_product a b in
+    if op == 4 then Ends (with_pair (p / 2 ^ 32) (p % 2 ^ 32) regs) df (product_changes (not (p / 2 ^ 32 == 0))) (Past n) else
+    if op == 5 then Ends (with_pair (s / 2 ^ 32) (s % 2 ^ 32) regs) df (product_changes (product_overflows a b)) (Past n) else
     if op == 6 then divides (quotient (pair_of regs) b) n regs df else
     divides (signed_quotient (pair_of regs) b) n regs df
 
+-- the first factor of an IMUL: a literal, or the destination
 abbrev pub factor_of : Option ℕ → ℕ → List ℕ → ℕ
 factor_of None dst regs = get_or regs dst 0
 factor_of (Some v) dst regs = v
@@ -211,7 +228,12 @@ bit_of v k = v / 2 ^ k % 2 == 1
 
 -- SAHF sets all flags but OF from AH
 abbrev pub flags_of_ah : ℕ → Changes
-flags_of_ah ah = record no_changes { cf = Becomes (bit_of ah 0); pf = Becomes (bit_of ah 2); zf = Becomes (bit_of ah 6); sf = Becomes (bit_of ah 7) }
+flags_of_ah ah = record no_changes {
+  cf = Becomes (bit_of ah 0);
+  pf = Becomes (bit_of ah 2);
+  zf = Becomes (bit_of ah 6);
+  sf = Becomes (bit_of ah 7);
+}
 
 -- ---- what an instruction of this length does at these registers; the place matters to relative targets alone
 unfoldable pub meaning : Inst → ℕ → List ℕ → ℕ → Bool → Act
@@ -226,27 +248,34 @@ meaning (Mov w dst b) n regs eip df =
 meaning (Lea w dst addr) n regs eip df =
     Ends (reg_with w dst (address_of addr regs % 2 ^ bits_of w) regs) df no_changes (Past n)
 meaning (Xchg w dst reg) n regs eip df =
-    of_rm w dst regs (λ a. to_rm w dst (reg_value w reg regs) regs (λ regs. Ends (reg_with w reg a regs) df no_changes (Past n)))
+    of_rm w dst regs (λ a.
+    to_rm w dst (reg_value w reg regs) regs (λ regs. Ends (reg_with w reg a regs) df no_changes (Past n)))
 meaning (Inc w dst) n regs eip df =
-    of_rm w dst regs (λ a. let r = of_step (add_result w a 1 false) in to_rm w dst r.value regs (λ regs. Ends regs df r.changes (Past n)))
+    of_rm w dst regs (λ a. let r = of_step (add_result w a 1 false) in
+    to_rm w dst r.value regs (λ regs. Ends regs df r.changes (Past n)))
 meaning (Dec w dst) n regs eip df =
-    of_rm w dst regs (λ a. let r = of_step (sub_result w a 1 false) in to_rm w dst r.value regs (λ regs. Ends regs df r.changes (Past n)))
+    of_rm w dst regs (λ a. let r = of_step (sub_result w a 1 false) in
+    to_rm w dst r.value regs (λ regs. Ends regs df r.changes (Past n)))
 meaning (Not w dst) n regs eip df =
     of_rm w dst regs (λ a. to_rm w dst (2 ^ bits_of w - 1 - a) regs (λ regs. Ends regs df no_changes (Past n)))
 meaning (Neg w dst) n regs eip df =
-    of_rm w dst regs (λ a. let r = of_sum (sub_result w 0 a false) in to_rm w dst r.value regs (λ regs. Ends regs df r.changes (Past n)))
+    of_rm w dst regs (λ a. let r = of_sum (sub_result w 0 a false) in
+    to_rm w dst r.value regs (λ regs. Ends regs df r.changes (Past n)))
 meaning (Push b) n regs eip df =
     of_src B32 b regs (λ b. pushed b regs (λ regs. Ends regs df no_changes (Past n)))
 meaning (Pop dst) n regs eip df =
-    Load (get_or regs 4 0) 4 (λ v. to_rm B32 dst v (set regs 4 (wrap (get_or regs 4 0 + 4))) (λ regs. Ends regs df no_changes (Past n)))
+    Load (get_or regs 4 0) 4 (λ v.
+    to_rm B32 dst v (set regs 4 (wrap (get_or regs 4 0 + 4))) (λ regs. Ends regs df no_changes (Past n)))
 meaning (MulDiv op src) n regs eip df = of_rm B32 src regs (λ b. muldiv op b n regs df)
 meaning (Imul dst src by) n regs eip df =
     of_rm B32 src regs (λ b. let a = factor_of by dst regs in
     Ends (set regs dst (a * b % 2 ^ 32)) df (product_changes (product_overflows a b)) (Past n))
 meaning (Shift op w dst count) n regs eip df =
-    of_rm w dst regs (λ a. let r = shifted op w a (count_of count regs) in to_rm w dst r.value regs (λ regs. Ends regs df r.changes (Past n)))
+    of_rm w dst regs (λ a. let r = shifted op w a (count_of count regs) in
+    to_rm w dst r.value regs (λ regs. Ends regs df r.changes (Past n)))
 meaning (Rotate right dst count) n regs eip df =
-    of_rm B32 dst regs (λ a. let r = rotated right a (count_of count regs) in to_rm B32 dst r.value regs (λ regs. Ends regs df r.changes (Past n)))
+    of_rm B32 dst regs (λ a. let r = rotated right a (count_of count regs) in
+    to_rm B32 dst r.value regs (λ regs. Ends regs df r.changes (Past n)))
 meaning Cwde n regs eip df =
     Ends (set regs 0 (sign_extended B16 B32 (reg_value B16 0 regs))) df no_changes (Past n)
 meaning Cdq n regs eip df =

@@ -1,4 +1,4 @@
--- Which opcode a byte is.
+-- Which opcode a byte is (SDM volume 2, appendix A, one-byte and two-byte opcode maps).
 use Rattle.std.specs.Prelude.{ℕ, ◌/◌, ◌%◌, ◌==◌, ◌&&◌, ◌||◌, true, false, Option, Some, None, if◌then◌else◌, nat_lt}
 use Rattle.ia_inst.specs.declared.inst.Inst.TheVariants as inst
 use Rattle.ia_inst.specs.declared.inst.Rm.TheVariants.{Reg}
@@ -12,6 +12,7 @@ use Rattle.ia_inst.specs.declared.opcode.By.TheVariants as by
 use Rattle.ia_inst.specs.declared.opcode.Second.{Second}
 use Rattle.ia_inst.specs.declared.opcode.Second.TheVariants as second
 
+-- the first six of each row of eight below 40: ALU instructions by their low three bits
 abbrev pub alu_of : ℕ → ℕ → Option Opcode
 alu_of op low =
     if low == 0 then Some (opcode.Binary (binary.AluTo op) true) else (
@@ -22,7 +23,7 @@ alu_of op low =
     if low == 5 then Some (opcode.Constant (constant.Alu op) false) else
     None)))))
 
--- the opcodes that hold no register: those below A0, and the others
+-- the opcodes below A0 that hold no register
 abbrev pub low_single_of : ℕ → Option Opcode
 low_single_of b =
     if b == 0x68 then Some (opcode.Simple simple.PushWord) else (
@@ -47,6 +48,7 @@ low_single_of b =
     if b == 0x9e then Some (opcode.Simple (simple.Whole inst.Sahf)) else
     None)))))))))))))))))))
 
+-- the opcodes from A0 on that hold no register
 abbrev pub high_single_of : ℕ → Option Opcode
 high_single_of b =
     if b == 0xa0 then Some (opcode.Absolute false true) else (
@@ -82,9 +84,11 @@ high_single_of b =
     if b == 0xff then Some (opcode.Step false) else
     None))))))))))))))))))))))))))))))
 
+-- the opcodes that hold no register
 abbrev pub single_of : ℕ → Option Opcode
 single_of b = if nat_lt b 0xa0 then low_single_of b else high_single_of b
 
+-- a byte as the first of an opcode; some hold a register, an ALU instruction or a condition in their low bits
 abbrev pub opcode_of : ℕ → Option Opcode
 opcode_of b =
     if ((b / 8) == 1) && ((b % 8) == 7) then Some opcode.Escape else (
@@ -98,6 +102,7 @@ opcode_of b =
     if (b / 8) == 22 then Some (opcode.Constant (constant.Mov (b % 8)) true) else (
     if (b / 8) == 23 then Some (opcode.Constant (constant.Mov (b % 8)) false) else single_of b)))))))))
 
+-- a byte as the second of an opcode, behind 0F
 abbrev pub second_of : ℕ → Option Second
 second_of b =
     if (b / 16) == 4 then Some (second.Cmov (b % 16)) else (

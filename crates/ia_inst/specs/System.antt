@@ -1,4 +1,5 @@
--- The system calls of int 0x80: the number in eax, the arguments in ebx, ecx and edx, the answer in eax.
+-- The system calls of int 0x80: the number in eax, the arguments in ebx, ecx and edx, the answer in eax (System V ABI of the
+-- i386 Linux kernel: exit 1, read 3, write 4, brk 45; errors are negative numbers of errno, modulo 2 ^ 32).
 use Rattle.std.specs.Prelude.{ℕ, ◌+◌, ◌-◌, ◌%◌, ◌^◌, nat_eq, nat_le, ◌&&◌, if◌then◌else◌, List, [], ◌++◌, map, length, take, drop, set, Option, Some, None, option_map}
 use Rattle.br_word.specs.declared.types.GuestFault.{GuestFault}
 use Rattle.br_word.specs.declared.types.GuestFault.TheVariants.{Access}
@@ -10,6 +11,7 @@ pub data StepResult : Type 0 where
   On : State → StepResult
   Bad : GuestFault → StepResult
 
+-- a buffer that memory does not allow is a fault at its first address
 abbrev pub or_bad : {X : Type 0} → ℕ → Option X → (X → StepResult) → StepResult
 or_bad at None go = Bad (Access at)
 or_bad at (Some x) go = go x

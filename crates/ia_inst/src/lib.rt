@@ -3,6 +3,7 @@
 
 mod inst;
 mod kinds;
+mod laws;
 mod opcode;
 mod prefixes;
 mod validity;
@@ -10,6 +11,7 @@ mod validity;
 pub use br_word::{Flags, GuestFault, Perms, ShiftOp, Width};
 pub use inst::{Addr, Count, Inst, Kind, Rm, Src};
 pub use kinds::{kind, reads_flags};
+pub use laws::{asks_exactly, each_fits};
 pub use opcode::{Binary, By, Constant, Opcode, Second, Simple};
 pub use prefixes::{Prefix, Prefixes};
 pub use validity::{canonical_spelling, valid};

@@ -3,19 +3,20 @@
 /// A byte that may stand before an opcode.
 #[derive(Clone, Copy, Debug, PartialEq, Eq)]
 pub enum Prefix {
-    /// 66
+    /// 66, the operand-size prefix.
     Size,
-    /// F3
+    /// F3, REP.
     Repeat,
-    /// 2E
+    /// 2E, the cs segment prefix, which compilers use as padding.
     Code,
-    /// 3E
+    /// 3E, the notrack prefix of indirect transfers.
     Branch,
 }
 
 /// What stands before an opcode.
 #[derive(Clone, Copy, Debug, PartialEq, Eq)]
 pub enum Prefixes {
+    /// Nothing.
     Bare,
     /// One 66.
     Size,
@@ -25,8 +26,11 @@ pub enum Prefixes {
     SizeRepeat,
     /// One 3E.
     Branch,
-    /// Any other list of 66 and 2E, and whether there is a 66.
-    Padding { wide: bool },
+    /// Any other list of 66 and 2E.
+    Padding {
+        /// There is a 66.
+        wide: bool,
+    },
     /// What stands before no opcode.
     Other,
 }

@@ -1,14 +1,14 @@
 -- What a step does to the machine's words, by what the instruction's act comes to.
-use Rattle.std.specs.Prelude.{◌≡◌, ℕ, ◌+◌, Bool, false, not, ◌||◌, List, [], ◌∷◌, Option, Some, None, Result, Ok, Err}
+use Rattle.std.specs.Prelude.{◌≡◌, ℕ, ◌+◌, Bool, List, Option, Some, None, Result, Ok, Err}
 use Rattle.br_word.specs.declared.types.Flags.{Flags}
 use Rattle.br_word.specs.declared.types.GuestFault.TheVariants.{Access, Divide}
 use Rattle.br_word.specs.Memory.{Region}
 use Rattle.br_word.specs.State as state
-use Rattle.br_word.specs.State.{Flag, flag_of}
 use Rattle.ia_inst.specs.declared.inst.Inst.{Inst}
 use Rattle.ia_inst.specs.Act.{Changes, Act, Completion, Next, Denied, Divided, Called, perform, flags_after, marks_after}
 use Rattle.ia_inst.specs.Meaning.{wrap, set_if, meaning}
 use Rattle.ia_inst.specs.Step.{next_eip}
+pub use Rattle.ia_inst.specs.Step.{some_unmarked}
 use Rattle.guest_mem.specs.View.{MemoryView}
 use Rattle.ia_meaning.specs.declared.cpu.Cpu.{Cpu}
 use Rattle.ia_meaning.specs.declared.cpu.Outcome.{Outcome}
@@ -31,11 +31,6 @@ Comes (Denied at) (outcome.Fault f) old m new n = (f ≡ Access at) × (view new
 Comes Divided (outcome.Fault f) old m new n = (f ≡ Divide old.eip) × (view new ≡ view old) × (new.eip ≡ old.eip) × (n ≡ m)
 Comes (Called n) outcome.Trap old m new after = (view new ≡ view old) × (new.eip ≡ wrap (old.eip + n)) × (after ≡ m)
 Comes e o old m new n = ⊥
-
--- some flag of the list is not marked as defined
-abbrev pub some_unmarked : List Flag → Flags → Bool
-some_unmarked [] marks = false
-some_unmarked (f ∷ fs) marks = not (flag_of f marks) || some_unmarked fs marks
 
 -- ---- its parts
 

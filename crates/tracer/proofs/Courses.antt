@@ -2,7 +2,7 @@
 use Rattle.std.proofs.Common.{◌≡◌, ℕ, zero, suc, ◌<◌, ◌≤◌, true, List, drop, length, Option, Some, None, IfSome, Result, Ok, Err, refl, sym, ◌∙◌, ap, subst, inl, inr, arith}
 use Rattle.br_word.specs.State.{State, Running}
 use Rattle.ia_inst.specs.Step.{step}
-use Rattle.guest_sys.specs.Streams.{Streams}
+use Rattle.br_outside.specs.Streams.{Streams}
 use Rattle.guest_sys.specs.Machine.{fed, bare}
 use Rattle.guest_sys.specs.declared.answers.SysError.{SysError}
 use Rattle.guest_run.specs.Guest.{GuestView, StepDone, StepCall, Runs, answer_of}

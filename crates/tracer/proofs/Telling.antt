@@ -4,7 +4,7 @@ use Rattle.br_word.specs.State.{State, RunState, Running, Exited, Faulted}
 use Rattle.ia_inst.specs.Step.{step}
 use Rattle.elf_read.specs.declared.exe.Exe.{Exe}
 use Rattle.br_outside.specs.Outside.{StreamView}
-use Rattle.guest_sys.specs.Streams.{Streams, Gains}
+use Rattle.br_outside.specs.Streams.{Streams, Gains}
 use Rattle.guest_sys.specs.Calls.{asks, spare, Passes}
 use Rattle.guest_sys.specs.declared.answers.SysError.{SysError}
 use Rattle.guest_sys.specs.declared.answers.SysError.TheVariants as sys

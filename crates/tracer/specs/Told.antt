@@ -3,7 +3,7 @@ use Rattle.std.specs.Prelude.{◌≡◌, ◌<◌, ◌≤◌, ℕ, List, [], ◌�
 use Rattle.br_word.specs.State.{State, Running}
 use Rattle.ia_inst.specs.Step.{step}
 use Rattle.elf_read.specs.declared.exe.Exe.{Exe}
-use Rattle.guest_sys.specs.Streams.{Streams}
+use Rattle.br_outside.specs.Streams.{Streams}
 use Rattle.guest_sys.specs.Calls.{Passes}
 use Rattle.guest_sys.specs.declared.answers.SysError.{SysError}
 use Rattle.guest_sys.specs.declared.answers.SysError.TheVariants as sys

@@ -2,7 +2,7 @@
 use Rattle.std.specs.Prelude.{◌≡◌, ◌⊎◌, ◌<◌, ◌≤◌, ℕ, zero, suc, true, List, length, Option, Some, None, Result, Ok, Err}
 use Rattle.br_word.specs.State.{Running}
 use Rattle.elf_read.specs.declared.exe.Exe.{Exe}
-use Rattle.guest_sys.specs.Streams.{Streams}
+use Rattle.br_outside.specs.Streams.{Streams}
 use Rattle.guest_sys.specs.declared.answers.SysError.{SysError}
 use Rattle.guest_sys.specs.declared.answers.SysError.TheVariants as sys
 use Rattle.guest_run.specs.Guest.{GuestView, StepCall, answer_of}

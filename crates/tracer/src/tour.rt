@@ -3,7 +3,7 @@ ghost use Rattle.std.specs.Prelude.{◌≡◌, ◌≤◌, ◌+◌, ◌^◌, true
 ghost use Rattle.elf_read.specs.Elf.{IsGuest};
 ghost use Rattle.run_model.specs.Opening.{FitArguments, opening, arguments};
 ghost use Rattle.guest_run.specs.Guest.{beginning, streams};
-ghost use Rattle.guest_sys.specs.Streams.{Streams};
+ghost use Rattle.br_outside.specs.Streams.{Streams};
 ghost use Rattle.tracer.specs.Tour.{Tour, Rests, entry_edge, edge_limit};
 ghost use Rattle.tracer.specs.Told.{TraceGives};
 

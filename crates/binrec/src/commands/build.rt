@@ -2,32 +2,31 @@
 ghost use Rattle.std.specs.Prelude.{Ok, length, string_bytes};
 ghost use Rattle.elf_read.specs.Elf.{IsOriginal};
 ghost use Rattle.build_core.specs.Image.{image};
-ghost use Rattle.binrec.specs.Plans.World.{World, on_shelf};
-ghost use Rattle.binrec.specs.Plans.Plan.{Went};
-ghost use Rattle.binrec.specs.Plans.Parts.{Checks};
+ghost use Rattle.top_plan.specs.World.{World, on_shelf};
+ghost use Rattle.top_plan.specs.Plan.{Went};
+ghost use Rattle.top_plan.specs.Parts.{Checks};
 ghost use Rattle.binrec.specs.Commands.{image_part, build_plan, built_line, end_of};
 
-use crate::acts::files::store_file;
-use crate::acts::stop::{Finish, Outcome, Stop};
 use crate::commands::original::fetch_original;
 use br_outside::Shelf;
 use build_core::{BuildError, Built, build};
 use elf_read::Exe;
 use std::alloc::Global;
+use top_plan::{Finish, Halt, Outcome, store_file};
 
 /// The image of an original. The error is want of memory.
-fn image_of(alloc: Global, exe: &Exe) -> Result<Built, Stop>
+fn image_of(alloc: Global, exe: &Exe) -> Result<Built, Halt>
     requires { IsOriginal exe.now }
     ensures { Checks (λ b. b) result (Ok (record { bytes = image exe.now; blocks = 0; code = 5 })) }
 {
     match build(alloc, exe) {
         Ok(built) => Ok(built),
-        Err(BuildError::Memory) => Err(Stop::Memory),
+        Err(BuildError::Memory) => Err(Halt::Memory),
     }
 }
 
 /// The report line of an image. The error is want of memory.
-fn line_of(alloc: Global, built: &Built) -> Result<String, Stop>
+fn line_of(alloc: Global, built: &Built) -> Result<String, Halt>
     ensures { Checks string_bytes result (Ok (built_line built.now.blocks built.now.code (length built.now.bytes))) }
 {
     let blocks = built.blocks;
@@ -35,7 +34,7 @@ fn line_of(alloc: Global, built: &Built) -> Result<String, Stop>
     let length = built.bytes.as_slice().len();
     match format!(in alloc; "built {blocks} {code} {length}\n") {
         Ok(line) => Ok(line),
-        Err(_) => Err(Stop::Memory),
+        Err(_) => Err(Halt::Memory),
     }
 }
 
@@ -47,7 +46,7 @@ fn store_image<F: Shelf>(
     shelf: &mut F,
     name: &str,
     exe: &Exe,
-) -> Result<Outcome, Stop>
+) -> Result<Outcome, Halt>
     requires { IsOriginal exe.now }
     ensures { (w : World) → Went (image_part name.now exe.now) (on_shelf w (F.seen shelf.old)) (end_of result) (on_shelf w (F.seen shelf.new)) }
 {
@@ -69,7 +68,7 @@ pub fn build_command<F: Shelf>(
     shelf: &mut F,
     name: &str,
     original: &str,
-) -> Result<Outcome, Stop>
+) -> Result<Outcome, Halt>
     ensures { (w : World) → Went (build_plan name.now original.now) (on_shelf w (F.seen shelf.old)) (end_of result) (on_shelf w (F.seen shelf.new)) }
 {
     let exe = fetch_original(alloc, shelf, original, 2)?;

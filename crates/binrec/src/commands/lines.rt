@@ -5,11 +5,11 @@ ghost use Rattle.guest_run.specs.Guest.{stop_of};
 ghost use Rattle.binrec.specs.Guests.{fault_kind, fault_address, stand_text, last_line, finish_of};
 ghost use Rattle.binrec.specs.Tours.{traced_line};
 
-use crate::acts::stop::Finish;
 use br_word::{GuestFault, Width};
 use guest_run::Stop as Stand;
 use ia_text::digits_text;
 use std::alloc::{AllocError, Global};
+use top_plan::Finish;
 
 /// The word of a fault.
 fn fault_kind(fault: GuestFault) -> &'static str

@@ -1,42 +1,41 @@
 //! `merge T E T..`: the union of traces, stored under a name.
 ghost use Rattle.std.specs.Prelude.{◌≤◌, Ok, IfOk, length, map, string_bytes};
 ghost use Rattle.trace_file.specs.Edges.{pairs, union_of};
-ghost use Rattle.binrec.specs.Plans.World.{World, on_shelf};
-ghost use Rattle.binrec.specs.Plans.Plan.{Went};
-ghost use Rattle.binrec.specs.Plans.Parts.{Checks};
+ghost use Rattle.top_plan.specs.World.{World, on_shelf};
+ghost use Rattle.top_plan.specs.Plan.{Went};
+ghost use Rattle.top_plan.specs.Parts.{Checks};
 ghost use Rattle.binrec.specs.Traces.{limited};
 ghost use Rattle.binrec.specs.Commands.{merge_plan, merged_line, store_part, end_of};
 
-use crate::acts::files::store_file;
-use crate::acts::stop::{Cause, Finish, Limit, Outcome, Stop};
 use crate::commands::original::fetch_subject;
 use crate::commands::traces::{UNION_LIMIT, fetch_traces, file_of};
 use br_outside::Shelf;
 use std::alloc::Global;
+use top_plan::{Cause, Finish, Halt, Limit, Outcome, store_file};
 use trace_file::{Edges, union_all};
 
 /// The union of traces. The error is the limit on it, or want of memory.
-fn union_of(alloc: Global, traces: Vec<Edges>) -> Result<Edges, Stop>
+fn union_of(alloc: Global, traces: Vec<Edges>) -> Result<Edges, Halt>
     requires { pairs traces.items ≤ 16777216 }
     ensures checks { Checks (λ es. es) result (limited (union_of traces.items)) }
     ensures count { IfOk result (λ es. length es ≤ UNION_LIMIT) }
 {
     let Ok(edges) = union_all(alloc, traces.as_slice()) else {
-        return Err(Stop::Memory);
+        return Err(Halt::Memory);
     };
     if edges.len() > UNION_LIMIT {
-        return Err(Stop::Because(Cause::Limited(Limit::Union)));
+        return Err(Halt::Because(Cause::Limited(Limit::Union)));
     }
     Ok(edges)
 }
 
 /// The report line of a union. The error is want of memory.
-fn line_of(alloc: Global, edges: u32) -> Result<String, Stop>
+fn line_of(alloc: Global, edges: u32) -> Result<String, Halt>
     ensures { Checks string_bytes result (Ok (merged_line edges)) }
 {
     match format!(in alloc; "merged {edges}\n") {
         Ok(line) => Ok(line),
-        Err(_) => Err(Stop::Memory),
+        Err(_) => Err(Halt::Memory),
     }
 }
 
@@ -49,7 +48,7 @@ fn store_union<F: Shelf>(
     target: &str,
     edges: &Edges,
     digest: &[u8; 32],
-) -> Result<Outcome, Stop>
+) -> Result<Outcome, Halt>
     requires { length edges.now ≤ UNION_LIMIT }
     ensures { (w : World) → Went (store_part target.now digest.now edges.now) (on_shelf w (F.seen shelf.old)) (end_of result) (on_shelf w (F.seen shelf.new)) }
 {
@@ -73,7 +72,7 @@ pub fn merge_command<F: Shelf>(
     target: &str,
     original: &str,
     names: &[String],
-) -> Result<Outcome, Stop>
+) -> Result<Outcome, Halt>
     requires { length names.now ≤ 4096 }
     ensures { (w : World) → Went (merge_plan target.now original.now (map string_bytes names.now)) (on_shelf w (F.seen shelf.old)) (end_of result) (on_shelf w (F.seen shelf.new)) }
 {

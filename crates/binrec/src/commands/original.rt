@@ -2,15 +2,14 @@
 ghost use Rattle.std.specs.Prelude.{◌≤◌, IfOk, length};
 ghost use Rattle.elf_read.specs.Elf.{elf, IsOriginal};
 ghost use Rattle.elf_read.specs.declared.exe.Reach.TheVariants.{Original};
-ghost use Rattle.binrec.specs.Plans.World.{World, on_shelf};
-ghost use Rattle.binrec.specs.Plans.Parts.{Goes, Checks};
+ghost use Rattle.top_plan.specs.World.{World, on_shelf};
+ghost use Rattle.top_plan.specs.Parts.{Goes, Checks};
 ghost use Rattle.binrec.specs.Traces.{of_word, original_part, with_digest, subject_part};
 
-use crate::acts::files::fetch_file;
-use crate::acts::stop::{Cause, Stop};
 use br_outside::Shelf;
 use elf_read::{ElfError, Exe, Reach, read_elf};
 use std::alloc::Global;
+use top_plan::{Cause, Halt, fetch_file};
 use trace_file::digest;
 
 /// The most bytes of an original.
@@ -27,19 +26,19 @@ pub struct Subject {
 ///
 /// The error is the refusal, with the position `word` of the word that names the file, or want of
 /// memory.
-fn original_of(alloc: Global, bytes: &[u8], word: u32) -> Result<Exe, Stop>
+fn original_of(alloc: Global, bytes: &[u8], word: u32) -> Result<Exe, Halt>
     requires { length bytes.now ≤ FILE_LIMIT }
     ensures checks { Checks (λ exe. exe) result (of_word word (elf Original bytes.now)) }
     ensures original { IfOk result IsOriginal }
 {
     match read_elf(alloc, bytes, Reach::Original) {
         Ok(exe) => Ok(exe),
-        Err(ElfError::Refused { number, place }) => Err(Stop::Because(Cause::RefusedWord {
+        Err(ElfError::Refused { number, place }) => Err(Halt::Because(Cause::RefusedWord {
             word,
             number: u32::from(number),
             place,
         })),
-        Err(ElfError::Memory) => Err(Stop::Memory),
+        Err(ElfError::Memory) => Err(Halt::Memory),
     }
 }
 
@@ -51,7 +50,7 @@ pub fn fetch_original<F: Shelf>(
     shelf: &mut F,
     name: &str,
     word: u32,
-) -> Result<Exe, Stop>
+) -> Result<Exe, Halt>
     ensures goes { (w : World) → Goes (λ exe. exe) (original_part name.now word) (on_shelf w (F.seen shelf.old)) result (on_shelf w (F.seen shelf.new)) }
     ensures original { IfOk result IsOriginal }
 {
@@ -60,7 +59,7 @@ pub fn fetch_original<F: Shelf>(
 }
 
 /// An original with the digest of its bytes. The error is as that of [`original_of`].
-fn subject_of(alloc: Global, bytes: &[u8], word: u32) -> Result<Subject, Stop>
+fn subject_of(alloc: Global, bytes: &[u8], word: u32) -> Result<Subject, Halt>
     requires { length bytes.now ≤ FILE_LIMIT }
     ensures checks { Checks (λ subject. subject) result (with_digest bytes.now (of_word word (elf Original bytes.now))) }
     ensures original { IfOk result (λ subject. IsOriginal subject.exe) }
@@ -81,7 +80,7 @@ pub fn fetch_subject<F: Shelf>(
     shelf: &mut F,
     name: &str,
     word: u32,
-) -> Result<Subject, Stop>
+) -> Result<Subject, Halt>
     ensures goes { (w : World) → Goes (λ subject. subject) (subject_part name.now word) (on_shelf w (F.seen shelf.old)) result (on_shelf w (F.seen shelf.new)) }
     ensures original { IfOk result (λ subject. IsOriginal subject.exe) }
 {

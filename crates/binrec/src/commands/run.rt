@@ -5,43 +5,42 @@ ghost use Rattle.elf_read.specs.declared.exe.Reach.TheVariants as reaches;
 ghost use Rattle.br_outside.specs.Outside.{ShelfView};
 ghost use Rattle.guest_run.specs.Guest.{beginning};
 ghost use Rattle.run_model.specs.Opening.{FitArguments};
-ghost use Rattle.binrec.specs.Plans.World.{World, on_shelf, world};
-ghost use Rattle.binrec.specs.Plans.Plan.{Went};
-ghost use Rattle.binrec.specs.Plans.Parts.{Goes, Checks};
-ghost use Rattle.binrec.specs.Guests.{guest_plan, stands, stop_of_error, TakesTurns};
+ghost use Rattle.top_plan.specs.World.{World, on_shelf, world};
+ghost use Rattle.top_plan.specs.Plan.{Went};
+ghost use Rattle.top_plan.specs.Parts.{Goes, Checks};
+ghost use Rattle.binrec.specs.Guests.{guest_plan, stands, halt_of_error, TakesTurns};
 ghost use Rattle.binrec.specs.Traces.{of_word};
 ghost use Rattle.binrec.specs.Commands.{guest_part, run_plan, end_of};
 
-use crate::acts::files::fetch_file;
-use crate::acts::stop::{Cause, Object, Outcome, Stop};
 use crate::commands::lines::{finish_of, last_line};
 use br_outside::{Shelf, Sink, Source};
 use elf_read::{ElfError, Exe, Reach, read_elf};
 use guest_run::{Guest, SysError};
 use std::alloc::Global;
+use top_plan::{Cause, Halt, Object, Outcome, fetch_file};
 
 /// The most bytes of a file that is run.
 const FILE_LIMIT: u32 = 268435456;
 
 /// What a file says as a guest, which is named by this word.
-fn guest_of(alloc: Global, bytes: Vec<u8>, word: u32) -> Result<Exe, Stop>
+fn guest_of(alloc: Global, bytes: Vec<u8>, word: u32) -> Result<Exe, Halt>
     requires { length bytes.items ≤ FILE_LIMIT }
     ensures checks { Checks (λ exe. exe) result (of_word word (elf reaches.Guest bytes.items)) }
     ensures guest { IfOk result IsGuest }
 {
     match read_elf(alloc, &bytes, Reach::Guest) {
         Ok(exe) => Ok(exe),
-        Err(ElfError::Refused { number, place }) => Err(Stop::Because(Cause::RefusedWord {
+        Err(ElfError::Refused { number, place }) => Err(Halt::Because(Cause::RefusedWord {
             word,
             number: u32::from(number),
             place,
         })),
-        Err(ElfError::Memory) => Err(Stop::Memory),
+        Err(ElfError::Memory) => Err(Halt::Memory),
     }
 }
 
 /// The guest under a name, which this word is, fetched and read.
-fn fetch_guest<F: Shelf>(alloc: Global, shelf: &mut F, name: &str, word: u32) -> Result<Exe, Stop>
+fn fetch_guest<F: Shelf>(alloc: Global, shelf: &mut F, name: &str, word: u32) -> Result<Exe, Halt>
     ensures goes { (w : World) → Goes (λ exe. exe) (guest_part name.now word) (on_shelf w (F.seen shelf.old)) result (on_shelf w (F.seen shelf.new)) }
     ensures guest { IfOk result IsGuest }
 {
@@ -50,26 +49,26 @@ fn fetch_guest<F: Shelf>(alloc: Global, shelf: &mut F, name: &str, word: u32) ->
 }
 
 /// The guest at its opening. The error is want of memory.
-fn open_guest(alloc: Global, exe: &Exe, args: &[String]) -> Result<Guest, Stop>
+fn open_guest(alloc: Global, exe: &Exe, args: &[String]) -> Result<Guest, Halt>
     requires fit { FitArguments (map string_bytes args.now) }
     requires guest { IsGuest exe.now }
     ensures { Checks (λ g. g) result (Ok (beginning exe.now (map string_bytes args.now))) }
 {
     match Guest::of(alloc, exe, args) {
         Ok(guest) => Ok(guest),
-        Err(_) => Err(Stop::Memory),
+        Err(_) => Err(Halt::Memory),
     }
 }
 
 /// The stop of the work where a step failed.
-fn stop_of_error(error: SysError) -> Stop
-    ensures { result ≡ stop_of_error error }
+fn halt_of_error(error: SysError) -> Halt
+    ensures { result ≡ halt_of_error error }
 {
     match error {
-        SysError::Input => Stop::Outside(Object::Input),
-        SysError::Out => Stop::Outside(Object::Output),
-        SysError::Report => Stop::Outside(Object::Report),
-        SysError::Memory => Stop::Memory,
+        SysError::Input => Halt::Outside(Object::Input),
+        SysError::Out => Halt::Outside(Object::Output),
+        SysError::Report => Halt::Outside(Object::Report),
+        SysError::Memory => Halt::Memory,
     }
 }
 
@@ -80,7 +79,7 @@ fn take_turns<I: Source, O: Sink, R: Sink>(
     input: &mut I,
     out: &mut O,
     report: &mut R,
-) -> Result<(), Stop>
+) -> Result<(), Halt>
     requires live { guest.old.live ≡ true }
     requires room { guest.old.steps + budget ≤ 10 ^ 18 }
     ensures { (v : ShelfView) → TakesTurns budget guest.old (world v (I.seen input.old) (O.seen out.old) (R.seen report.old)) result guest.new (world v (I.seen input.new) (O.seen out.new) (R.seen report.new)) }
@@ -89,14 +88,14 @@ fn take_turns<I: Source, O: Sink, R: Sink>(
         match guest.step(0, input, out, report) {
             Ok(true) => {}
             Ok(false) => return Ok(()),
-            Err(error) => return Err(stop_of_error(error)),
+            Err(error) => return Err(halt_of_error(error)),
         }
     }
     Ok(())
 }
 
 /// The end of the work, by how the guest stands. The error is want of memory.
-fn outcome_of(alloc: Global, guest: &Guest) -> Result<Outcome, Stop>
+fn outcome_of(alloc: Global, guest: &Guest) -> Result<Outcome, Halt>
     ensures { (w : World) → Went (stands guest.now) w (end_of result) w }
 {
     let stand = guest.stop();
@@ -105,7 +104,7 @@ fn outcome_of(alloc: Global, guest: &Guest) -> Result<Outcome, Stop>
             finish: finish_of(stand),
             line,
         }),
-        Err(_) => Err(Stop::Memory),
+        Err(_) => Err(Halt::Memory),
     }
 }
 
@@ -118,7 +117,7 @@ fn run_guest<I: Source, O: Sink, R: Sink>(
     input: &mut I,
     out: &mut O,
     report: &mut R,
-) -> Result<Outcome, Stop>
+) -> Result<Outcome, Halt>
     requires fit { FitArguments (map string_bytes args.now) }
     requires guest { IsGuest exe.now }
     requires few { steps ≤ 10 ^ 18 }
@@ -141,7 +140,7 @@ pub fn run_command<F: Shelf, I: Source, O: Sink, R: Sink>(
     original: &str,
     args: &[String],
     word: u32,
-) -> Result<Outcome, Stop>
+) -> Result<Outcome, Halt>
     requires fit { FitArguments (map string_bytes args.now) }
     requires few { steps ≤ 10 ^ 18 }
     ensures { Went (run_plan steps original.now (map string_bytes args.now) word) (world (F.seen shelf.old) (I.seen input.old) (O.seen out.old) (R.seen report.old)) (end_of result) (world (F.seen shelf.new) (I.seen input.new) (O.seen out.new) (R.seen report.new)) }

@@ -5,14 +5,12 @@ ghost use Rattle.br_outside.specs.Outside.{StreamView};
 ghost use Rattle.trace_file.specs.Edges.{pairs, union_of};
 ghost use Rattle.flow_graph.specs.Graph.{AreCode};
 ghost use Rattle.flow_graph.specs.Made.{graph_of};
-ghost use Rattle.binrec.specs.Plans.World.{World, on_out, world};
-ghost use Rattle.binrec.specs.Plans.Plan.{Went};
-ghost use Rattle.binrec.specs.Plans.Parts.{Checks};
+ghost use Rattle.top_plan.specs.World.{World, on_out, world};
+ghost use Rattle.top_plan.specs.Plan.{Went};
+ghost use Rattle.top_plan.specs.Parts.{Checks};
 ghost use Rattle.binrec.specs.Listings.{listing, limited_graph, shown_line, listing_part};
 ghost use Rattle.binrec.specs.Commands.{show_plan, end_of};
 
-use crate::acts::print::print_text;
-use crate::acts::stop::{Cause, Finish, Limit, Outcome, Stop};
 use crate::commands::original::fetch_subject;
 use crate::commands::traces::fetch_traces;
 use br_outside::{Shelf, Sink};
@@ -20,11 +18,12 @@ use elf_read::Exe;
 use flow_graph::{Graph, GraphError, one_graph};
 use show_text::show_block;
 use std::alloc::Global;
+use top_plan::{Cause, Finish, Halt, Limit, Outcome, print_text};
 use trace_file::{Edges, union_all};
 
 /// The graph of an original and the union of its traces. The error is the limit on its blocks, or want of
 /// memory.
-fn graph_of(alloc: Global, exe: &Exe, traces: Vec<Edges>) -> Result<Graph, Stop>
+fn graph_of(alloc: Global, exe: &Exe, traces: Vec<Edges>) -> Result<Graph, Halt>
     requires guest { IsGuest exe.now }
     requires few { pairs traces.items ≤ 16777216 }
     ensures graph { Checks (λ g. g) result (limited_graph (graph_of exe.now (union_of traces.items))) }
@@ -32,17 +31,17 @@ fn graph_of(alloc: Global, exe: &Exe, traces: Vec<Edges>) -> Result<Graph, Stop>
 {
     one_graph();
     let Ok(edges) = union_all(alloc, traces.as_slice()) else {
-        return Err(Stop::Memory);
+        return Err(Halt::Memory);
     };
     match Graph::of(alloc, exe, &edges) {
         Ok(graph) => Ok(graph),
-        Err(GraphError::Blocks) => Err(Stop::Because(Cause::Limited(Limit::Blocks))),
-        Err(GraphError::Memory) => Err(Stop::Memory),
+        Err(GraphError::Blocks) => Err(Halt::Because(Cause::Limited(Limit::Blocks))),
+        Err(GraphError::Memory) => Err(Halt::Memory),
     }
 }
 
 /// The listing of a graph. The error is want of memory.
-fn listing_of(alloc: Global, exe: &Exe, graph: &Graph) -> Result<String, Stop>
+fn listing_of(alloc: Global, exe: &Exe, graph: &Graph) -> Result<String, Halt>
     requires guest { IsGuest exe.now }
     requires code { AreCode exe.now graph.now }
     ensures { Checks string_bytes result (Ok (listing exe.now graph.now)) }
@@ -58,19 +57,19 @@ fn listing_of(alloc: Global, exe: &Exe, graph: &Graph) -> Result<String, Stop>
         )
         .is_err()
         {
-            return Err(Stop::Memory);
+            return Err(Halt::Memory);
         }
     }
     Ok(text)
 }
 
 /// The report line of a listing. The error is want of memory.
-fn line_of(alloc: Global, blocks: u32) -> Result<String, Stop>
+fn line_of(alloc: Global, blocks: u32) -> Result<String, Halt>
     ensures { Checks string_bytes result (Ok (shown_line blocks)) }
 {
     match format!(in alloc; "shown {blocks}\n") {
         Ok(line) => Ok(line),
-        Err(_) => Err(Stop::Memory),
+        Err(_) => Err(Halt::Memory),
     }
 }
 
@@ -82,7 +81,7 @@ fn print_graph<O: Sink>(
     out: &mut O,
     exe: &Exe,
     graph: &Graph,
-) -> Result<Outcome, Stop>
+) -> Result<Outcome, Halt>
     requires guest { IsGuest exe.now }
     requires code { AreCode exe.now graph.now }
     ensures { (w : World) → Went (listing_part exe.now graph.now) (on_out w (O.seen out.old)) (end_of result) (on_out w (O.seen out.new)) }
@@ -108,7 +107,7 @@ pub fn show_command<F: Shelf, O: Sink>(
     out: &mut O,
     original: &str,
     names: &[String],
-) -> Result<Outcome, Stop>
+) -> Result<Outcome, Halt>
     requires { length names.now ≤ 4096 }
     ensures { (i r : StreamView) → Went (show_plan original.now (map string_bytes names.now)) (world (F.seen shelf.old) i (O.seen out.old) r) (end_of result) (world (F.seen shelf.new) i (O.seen out.new) r) }
 {

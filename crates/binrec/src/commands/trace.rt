@@ -5,32 +5,31 @@ ghost use Rattle.br_outside.specs.Outside.{ShelfView};
 ghost use Rattle.guest_run.specs.Guest.{beginning, stop_of};
 ghost use Rattle.run_model.specs.Opening.{FitArguments};
 ghost use Rattle.tracer.specs.Tour.{entry_edge};
-ghost use Rattle.binrec.specs.Plans.World.{World, on_shelf, world};
-ghost use Rattle.binrec.specs.Plans.Plan.{Went};
-ghost use Rattle.binrec.specs.Plans.Parts.{Goes, Checks};
-ghost use Rattle.binrec.specs.Tours.{traced_line, tour_plan, stop_of_tracing};
+ghost use Rattle.top_plan.specs.World.{World, on_shelf, world};
+ghost use Rattle.top_plan.specs.Plan.{Went};
+ghost use Rattle.top_plan.specs.Parts.{Goes, Checks};
+ghost use Rattle.binrec.specs.Tours.{traced_line, tour_plan, halt_of_tracing};
 ghost use Rattle.binrec.specs.Commands.{traced_part, trace_plan, end_of};
 
-use crate::acts::files::store_file;
-use crate::acts::stop::{Cause, Limit, Object, Outcome, Stop};
 use crate::commands::lines::{finish_of, traced_line};
 use crate::commands::original::fetch_subject;
 use crate::commands::traces::file_of;
 use br_outside::{Shelf, Sink, Source};
 use elf_read::Exe;
 use std::alloc::Global;
+use top_plan::{Cause, Halt, Limit, Object, Outcome, store_file};
 use tracer::{Traced, TracingError, trace};
 
 /// The stop of the work where a run was not traced to its end.
-fn stop_of_tracing(error: TracingError) -> Stop
-    ensures { result ≡ stop_of_tracing error }
+fn halt_of_tracing(error: TracingError) -> Halt
+    ensures { result ≡ halt_of_tracing error }
 {
     match error {
-        TracingError::Input => Stop::Outside(Object::Input),
-        TracingError::Out => Stop::Outside(Object::Output),
-        TracingError::Report => Stop::Outside(Object::Report),
-        TracingError::Union => Stop::Because(Cause::Limited(Limit::Union)),
-        TracingError::Memory => Stop::Memory,
+        TracingError::Input => Halt::Outside(Object::Input),
+        TracingError::Out => Halt::Outside(Object::Output),
+        TracingError::Report => Halt::Outside(Object::Report),
+        TracingError::Union => Halt::Because(Cause::Limited(Limit::Union)),
+        TracingError::Memory => Halt::Memory,
     }
 }
 
@@ -43,7 +42,7 @@ fn trace_guest<I: Source, O: Sink, R: Sink>(
     input: &mut I,
     out: &mut O,
     report: &mut R,
-) -> Result<Traced, Stop>
+) -> Result<Traced, Halt>
     requires fit { FitArguments (map string_bytes args.now) }
     requires guest { IsGuest exe.now }
     requires few { steps ≤ 10 ^ 18 }
@@ -53,18 +52,18 @@ fn trace_guest<I: Source, O: Sink, R: Sink>(
 {
     match trace(alloc, exe, args, steps, input, out, report) {
         Ok(traced) => Ok(traced),
-        Err(error) => Err(stop_of_tracing(error)),
+        Err(error) => Err(halt_of_tracing(error)),
     }
 }
 
 /// The report line of a traced run. The error is want of memory.
-fn line_of(alloc: Global, traced: &Traced) -> Result<String, Stop>
+fn line_of(alloc: Global, traced: &Traced) -> Result<String, Halt>
     ensures { Checks string_bytes result (Ok (traced_line (stop_of traced.now.stop) traced.now.steps traced.now.undefined (length traced.now.edges))) }
 {
     let edges = traced.edges.len();
     match traced_line(alloc, traced.stop, traced.steps, traced.undefined, edges) {
         Ok(line) => Ok(line),
-        Err(_) => Err(Stop::Memory),
+        Err(_) => Err(Halt::Memory),
     }
 }
 
@@ -77,7 +76,7 @@ fn store_traced<F: Shelf>(
     target: &str,
     traced: &Traced,
     digest: &[u8; 32],
-) -> Result<Outcome, Stop>
+) -> Result<Outcome, Halt>
     requires { length traced.now.edges ≤ 2000000 }
     ensures { (w : World) → Went (traced_part target.now digest.now traced.now) (on_shelf w (F.seen shelf.old)) (end_of result) (on_shelf w (F.seen shelf.new)) }
 {
@@ -108,7 +107,7 @@ pub fn trace_command<F: Shelf, I: Source, O: Sink, R: Sink>(
     original: &str,
     args: &[String],
     word: u32,
-) -> Result<Outcome, Stop>
+) -> Result<Outcome, Halt>
     requires fit { FitArguments (map string_bytes args.now) }
     requires few { steps ≤ 10 ^ 18 }
     ensures { Went (trace_plan steps target.now original.now (map string_bytes args.now) word) (world (F.seen shelf.old) (I.seen input.old) (O.seen out.old) (R.seen report.old)) (end_of result) (world (F.seen shelf.new) (I.seen input.new) (O.seen out.new) (R.seen report.new)) }

@@ -2,14 +2,13 @@
 ghost use Rattle.std.specs.Prelude.{◌≤◌, ◌<◌, ◌+◌, ◌^◌, IfOk, length, map, string_bytes};
 ghost use Rattle.trace_file.specs.Edges.{pairs};
 ghost use Rattle.trace_file.specs.Trace.{trace, trace_bytes};
-ghost use Rattle.binrec.specs.Plans.World.{World, on_shelf};
-ghost use Rattle.binrec.specs.Plans.Parts.{Goes, Checks};
+ghost use Rattle.top_plan.specs.World.{World, on_shelf};
+ghost use Rattle.top_plan.specs.Parts.{Goes, Checks};
 ghost use Rattle.binrec.specs.Traces.{edges_of_word, counted, trace_part, traces_part};
 
-use crate::acts::files::fetch_file;
-use crate::acts::stop::{Cause, Limit, Stop};
 use br_outside::Shelf;
 use std::alloc::Global;
+use top_plan::{Cause, Halt, Limit, fetch_file};
 use trace_file::{Edges, TraceError, read_trace, write_trace};
 
 /// The most bytes of a trace.
@@ -30,22 +29,22 @@ const OTHER_PLACE: u32 = 8;
 ///
 /// The error is the refusal, with the position `word` of the word that names the file, or want of
 /// memory.
-fn edges_of(alloc: Global, bytes: &[u8], digest: &[u8; 32], word: u32) -> Result<Edges, Stop>
+fn edges_of(alloc: Global, bytes: &[u8], digest: &[u8; 32], word: u32) -> Result<Edges, Halt>
     ensures { Checks (λ es. es) result (edges_of_word word (trace bytes.now digest.now)) }
 {
     match read_trace(alloc, bytes, digest) {
         Ok(edges) => Ok(edges),
-        Err(TraceError::Refused { number, place }) => Err(Stop::Because(Cause::RefusedWord {
+        Err(TraceError::Refused { number, place }) => Err(Halt::Because(Cause::RefusedWord {
             word,
             number: u32::from(number),
             place,
         })),
-        Err(TraceError::Other { .. }) => Err(Stop::Because(Cause::RefusedWord {
+        Err(TraceError::Other { .. }) => Err(Halt::Because(Cause::RefusedWord {
             word,
             number: OTHER_NUMBER,
             place: OTHER_PLACE,
         })),
-        Err(TraceError::Memory) => Err(Stop::Memory),
+        Err(TraceError::Memory) => Err(Halt::Memory),
     }
 }
 
@@ -57,14 +56,14 @@ fn counted_edges(
     digest: &[u8; 32],
     word: u32,
     before: u32,
-) -> Result<Edges, Stop>
+) -> Result<Edges, Halt>
     requires { before ≤ EDGE_LIMIT }
     ensures checks { Checks (λ es. es) result (counted before (edges_of_word word (trace bytes.now digest.now))) }
     ensures count { IfOk result (λ es. before + length es ≤ EDGE_LIMIT) }
 {
     let edges = edges_of(alloc, bytes, digest, word)?;
     if edges.len() > EDGE_LIMIT - before {
-        return Err(Stop::Because(Cause::Limited(Limit::Edges)));
+        return Err(Halt::Because(Cause::Limited(Limit::Edges)));
     }
     Ok(edges)
 }
@@ -80,7 +79,7 @@ fn fetch_trace<F: Shelf>(
     name: &str,
     word: u32,
     before: u32,
-) -> Result<Edges, Stop>
+) -> Result<Edges, Halt>
     requires { before ≤ EDGE_LIMIT }
     ensures goes { (w : World) → Goes (λ es. es) (trace_part digest.now name.now word before) (on_shelf w (F.seen shelf.old)) result (on_shelf w (F.seen shelf.new)) }
     ensures count { IfOk result (λ es. before + length es ≤ EDGE_LIMIT) }
@@ -98,7 +97,7 @@ pub fn fetch_traces<F: Shelf>(
     digest: &[u8; 32],
     names: &[String],
     word: u32,
-) -> Result<Vec<Edges>, Stop>
+) -> Result<Vec<Edges>, Halt>
     requires few { word + length names.now < 2 ^ 32 }
     ensures goes { (w : World) → Goes (λ v. v.items) (traces_part digest.now (map string_bytes names.now) word 0) (on_shelf w (F.seen shelf.old)) result (on_shelf w (F.seen shelf.new)) }
     ensures count { IfOk result (λ v. pairs v.items ≤ EDGE_LIMIT) }
@@ -110,7 +109,7 @@ pub fn fetch_traces<F: Shelf>(
         let edges = fetch_trace(alloc, shelf, digest, name.as_str(), at, count)?;
         count += edges.len();
         if traces.push(edges).is_err() {
-            return Err(Stop::Memory);
+            return Err(Halt::Memory);
         }
         at += 1;
     }
@@ -118,12 +117,12 @@ pub fn fetch_traces<F: Shelf>(
 }
 
 /// The file of a trace. The error is want of memory.
-pub fn file_of(alloc: Global, edges: &Edges, digest: &[u8; 32]) -> Result<Vec<u8>, Stop>
+pub fn file_of(alloc: Global, edges: &Edges, digest: &[u8; 32]) -> Result<Vec<u8>, Halt>
     requires { length edges.now ≤ UNION_LIMIT }
     ensures { Checks (λ v. v.items) result (Ok (trace_bytes edges.now digest.now)) }
 {
     match write_trace(alloc, edges, digest) {
         Ok(file) => Ok(file),
-        Err(_) => Err(Stop::Memory),
+        Err(_) => Err(Halt::Memory),
     }
 }

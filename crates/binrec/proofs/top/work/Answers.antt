@@ -2,7 +2,7 @@ use Rattle.std.proofs.Common.{map, string_bytes, Ok, ap, ◌∙◌, arith}
 use Rattle.std.proofs.lemmas.List.{length-map}
 use Rattle.word_reader.specs.Reads.{asked_of}
 use Rattle.word_reader.specs.Words.{Builds, Merges, Shows}
-use Rattle.binrec.specs.Plans.World.{world}
+use Rattle.top_plan.specs.World.{world}
 use Rattle.binrec.specs.Commands.{end_of}
 use Rattle.binrec.proofs.Tops.{no_command, asked_for, run_for, trace_for}
 use Rattle.binrec.proofs.Fitting.{asked_fits, trace_fits, merge_fits, show_fits}

@@ -1,6 +1,7 @@
 use Rattle.std.proofs.Common.{◌≡◌, ◌≤◌, sym, ap, ◌∙◌, subst}
 use Rattle.std.specs.Prelude.{Ok}
 use Rattle.std.proofs.lemmas.Result.{err_from_is_err_and}
+use Rattle.elf_read.specs.declared.limits.TheConstants.{HIGHEST_END}
 use Rattle.elf_read.specs.Elf.{lowest, end_of_last, round_up, elf}
 use Rattle.elf_read.proofs.Accepted.{accepted_exe}
 use Rattle.elf_read.proofs.Parts.{last_bound}
@@ -25,7 +26,7 @@ returns-in_err-segments-clause-read c =
 pub heap_start-requires : goal.heap_start-requires
 heap_start-requires c =
     let f = fields_now c.args.reach c.args.bytes.now c.in_ok-table.ensures.refused c.in_ok-check_table.ensures in
-    subst (λ ss. end_of_last ss ≤ 0xA0000000) (sym (c.deref.ensures.value ∙ c.in_ok-segments.ensures)) (last_bound (lowest c.args.reach) _ f.segments)
+    subst (λ ss. end_of_last ss ≤ HIGHEST_END) (sym (c.deref.ensures.value ∙ c.in_ok-segments.ensures)) (last_bound (lowest c.args.reach) _ f.segments)
 
 the_result : (c : goal.After-of) → elf c.args.reach c.args.bytes.now ≡ Ok (record { entry = c.word_at.result; segments = c.of.result; brk_start = c.heap_start.result })
 the_result c = the_exe c.args.reach c.args.bytes.now c.word_at.result c.of.result c.heap_start.result c.in_ok-table.ensures.refused c.in_ok-check_table.ensures c.word_at.ensures

@@ -1,5 +1,5 @@
 use Rattle.std.proofs.Common.{◌≡◌, ◌≤◌, ◌+◌, ◌-◌, ◌^◌, true, length, Result}
-use Rattle.guest_sys.specs.Streams.{Streams}
+use Rattle.br_outside.specs.Streams.{Streams}
 use Rattle.guest_run.specs.Guest.{streams}
 use Rattle.tracer.specs.declared.answers.Traced.{Traced}
 use Rattle.tracer.specs.declared.answers.TracingError.{TracingError}

@@ -1,7 +1,7 @@
 use Rattle.std.proofs.Common.{Ok, string_bytes}
-use Rattle.binrec.specs.Plans.Plan.{Ends}
+use Rattle.top_plan.specs.Plan.{Ends}
 use Rattle.binrec.specs.Commands.{image_part, done_with}
-use Rattle.binrec.proofs.Plans.Runs.{ended, memory_ends}
+use Rattle.top_plan.proofs.Passes.{ended, memory_ends}
 use Rattle.binrec.proofs.Ends.{ends_on, is_image, stored_image}
 use Rattle.binrec.proofs.commands.build.store_image.Goals as goal
 

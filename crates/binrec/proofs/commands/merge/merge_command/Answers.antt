@@ -1,10 +1,10 @@
 use Rattle.std.proofs.Common.{ℕ, List, map, string_bytes}
 use Rattle.trace_file.specs.Edges.{Edge, union_of}
-use Rattle.binrec.specs.Plans.Plan.{Plan}
+use Rattle.top_plan.specs.Plan.{Plan}
 use Rattle.binrec.specs.Commands.{union_part, store_part}
 use Rattle.binrec.specs.Traces.{traces_part, limited}
 use Rattle.binrec.specs.declared.commands.original.Subject.{Subject}
-use Rattle.binrec.proofs.Plans.Runs.{passes, refuses_or_runs_out}
+use Rattle.top_plan.proofs.Passes.{passes, refuses_or_runs_out}
 use Rattle.binrec.proofs.Ends.{ends_on}
 use Rattle.binrec.proofs.commands.merge.merge_command.Goals as goal
 

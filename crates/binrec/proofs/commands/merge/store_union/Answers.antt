@@ -1,7 +1,7 @@
 use Rattle.std.proofs.Common.{Ok, string_bytes}
-use Rattle.binrec.specs.Plans.Plan.{Ends}
+use Rattle.top_plan.specs.Plan.{Ends}
 use Rattle.binrec.specs.Commands.{store_part, done_with}
-use Rattle.binrec.proofs.Plans.Runs.{ended, memory_ends}
+use Rattle.top_plan.proofs.Passes.{ended, memory_ends}
 use Rattle.binrec.proofs.Ends.{ends_on}
 use Rattle.binrec.proofs.Merging.{stored_union}
 use Rattle.binrec.proofs.commands.merge.store_union.Goals as goal

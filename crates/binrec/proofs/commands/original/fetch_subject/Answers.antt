@@ -1,8 +1,8 @@
 use Rattle.elf_read.specs.Elf.{elf}
 use Rattle.elf_read.specs.declared.exe.Reach.TheVariants.{Original}
-use Rattle.binrec.specs.Plans.Plan.{Fetches}
+use Rattle.top_plan.specs.Plan.{Fetches}
 use Rattle.binrec.specs.Traces.{of_word, with_digest}
-use Rattle.binrec.proofs.Plans.Runs.{goes_checked}
+use Rattle.top_plan.proofs.Passes.{goes_checked}
 use Rattle.binrec.proofs.commands.original.fetch_subject.Goals as goal
 
 pub returns-clause-goes : goal.returns-clause-goes

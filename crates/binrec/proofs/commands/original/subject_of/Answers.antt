@@ -1,6 +1,6 @@
 use Rattle.std.proofs.Common.{Ok, refl, sym, ◌∙◌, ap}
 use Rattle.binrec.specs.Traces.{with_digest}
-use Rattle.binrec.proofs.Checking.{blames_on, checks_on}
+use Rattle.top_plan.proofs.Checking.{blames_on, checks_on}
 use Rattle.binrec.proofs.commands.original.subject_of.Goals as goal
 
 pub returns-in_err-exe-clause-checks : goal.returns-in_err-exe-clause-checks

@@ -1,6 +1,6 @@
 use Rattle.std.proofs.Common.{map, string_bytes}
 use Rattle.guest_run.specs.Guest.{beginning}
-use Rattle.binrec.specs.Plans.World.{world}
+use Rattle.top_plan.specs.World.{world}
 use Rattle.binrec.specs.Guests.{guest_plan}
 use Rattle.binrec.specs.Commands.{end_of}
 use Rattle.binrec.proofs.Ends.{ends_on}

@@ -1,8 +1,8 @@
 use Rattle.std.proofs.Common.{map, string_bytes}
 use Rattle.guest_run.specs.Guest.{beginning}
-use Rattle.binrec.specs.Plans.World.{world}
+use Rattle.top_plan.specs.World.{world}
 use Rattle.binrec.specs.Guests.{guest_plan}
-use Rattle.binrec.proofs.Plans.Runs.{memory_ends}
+use Rattle.top_plan.proofs.Passes.{memory_ends}
 use Rattle.binrec.proofs.Ends.{ends_on}
 use Rattle.binrec.proofs.Turning.{guest_as}
 use Rattle.binrec.proofs.commands.run.run_guest.Goals as goal

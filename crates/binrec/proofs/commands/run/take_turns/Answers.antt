@@ -15,7 +15,7 @@ pub returns-in-Ok-false : goal.returns-in-Ok-false
 returns-in-Ok-false g c v o u went = c.loop-turn.invariant.goes v o u (stays (c.args.budget - c.loop-turn.turn) _ _ v _ _ o u c.in-Ok-false.field-0 c.in-Ok-false.ensures c.in-Ok-false.field-0-test went)
 
 pub returns-in-Err : goal.returns-in-Err
-returns-in-Err g c v = rw c.stop_of_error.ensures (c.loop-turn.invariant.goes v _ _ (fails (c.args.budget - c.loop-turn.turn) (c.args.budget - (c.loop-turn.turn + 1)) _ _ v _ _ c.in-Err.error c.in-Err.ensures (omega (arith, c.loop-turn-test.true))))
+returns-in-Err g c v = rw c.halt_of_error.ensures (c.loop-turn.invariant.goes v _ _ (fails (c.args.budget - c.loop-turn.turn) (c.args.budget - (c.loop-turn.turn + 1)) _ _ v _ _ c.in-Err.error c.in-Err.ensures (omega (arith, c.loop-turn-test.true))))
 
 pub loop-turn-preserved : goal.loop-turn-preserved
 loop-turn-preserved g c = record {

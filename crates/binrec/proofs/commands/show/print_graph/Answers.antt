@@ -1,8 +1,8 @@
 use Rattle.std.proofs.Common.{Ok, string_bytes}
-use Rattle.binrec.specs.Plans.Plan.{Ends}
+use Rattle.top_plan.specs.Plan.{Ends}
 use Rattle.binrec.specs.Listings.{listing_part}
 use Rattle.binrec.specs.Commands.{done_with}
-use Rattle.binrec.proofs.Plans.Runs.{ended, memory_ends}
+use Rattle.top_plan.proofs.Passes.{ended, memory_ends}
 use Rattle.binrec.proofs.Ends.{ends_on}
 use Rattle.binrec.proofs.Showing.{shown}
 use Rattle.binrec.proofs.commands.show.print_graph.Goals as goal

@@ -3,13 +3,13 @@ use Rattle.elf_read.specs.declared.exe.Exe.{Exe}
 use Rattle.elf_read.proofs.Accepted.{original_is_guest}
 use Rattle.trace_file.specs.Edges.{Edge, union_of}
 use Rattle.flow_graph.specs.Made.{graph_of}
-use Rattle.binrec.specs.Plans.World.{world}
-use Rattle.binrec.specs.Plans.Plan.{Plan}
-use Rattle.binrec.specs.Plans.Parts.{checked}
+use Rattle.top_plan.specs.World.{world}
+use Rattle.top_plan.specs.Plan.{Plan}
+use Rattle.top_plan.specs.Parts.{checked}
 use Rattle.binrec.specs.Listings.{limited_graph, listing_part}
 use Rattle.binrec.specs.Traces.{traces_part}
 use Rattle.binrec.specs.declared.commands.original.Subject.{Subject}
-use Rattle.binrec.proofs.Plans.Runs.{passes, refuses_or_runs_out}
+use Rattle.top_plan.proofs.Passes.{passes, refuses_or_runs_out}
 use Rattle.binrec.proofs.Ends.{ends_on}
 use Rattle.binrec.proofs.commands.show.show_command.Goals as goal
 

@@ -1,10 +1,10 @@
 use Rattle.std.proofs.Common.{Ok, refl, string_bytes}
 use Rattle.guest_run.specs.Guest.{stop_of}
-use Rattle.binrec.specs.Plans.Texts.{Finished}
-use Rattle.binrec.specs.Plans.Plan.{Ends}
+use Rattle.top_plan.specs.Texts.{Finished}
+use Rattle.top_plan.specs.Plan.{Ends}
 use Rattle.binrec.specs.Guests.{finish_of}
 use Rattle.binrec.specs.Commands.{traced_part}
-use Rattle.binrec.proofs.Plans.Runs.{ended, memory_ends}
+use Rattle.top_plan.proofs.Passes.{ended, memory_ends}
 use Rattle.binrec.proofs.Ends.{ends_on}
 use Rattle.binrec.proofs.Touring.{stored_tour}
 use Rattle.binrec.proofs.commands.trace.store_traced.Goals as goal

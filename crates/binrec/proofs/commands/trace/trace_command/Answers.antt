@@ -2,8 +2,8 @@ use Rattle.std.proofs.Common.{ℕ, List, [], ◌∷◌, map, string_bytes}
 use Rattle.elf_read.proofs.Accepted.{original_is_guest}
 use Rattle.guest_run.specs.Guest.{beginning}
 use Rattle.tracer.specs.Tour.{entry_edge}
-use Rattle.binrec.specs.Plans.World.{world}
-use Rattle.binrec.specs.Plans.Plan.{Plan}
+use Rattle.top_plan.specs.World.{world}
+use Rattle.top_plan.specs.Plan.{Plan}
 use Rattle.binrec.specs.Tours.{tour_plan}
 use Rattle.binrec.specs.Commands.{traced_part, end_of}
 use Rattle.binrec.specs.declared.commands.original.Subject.{Subject}

@@ -10,4 +10,4 @@ returns-in-Ok-clause-goes g c v next o u went =
 
 pub returns-in-Err-clause-goes : goal.returns-in-Err-clause-goes
 returns-in-Err-clause-goes g c v next =
-    tours next c.args.steps (beginning c.args.exe.now (map string_bytes c.args.args.now)) (entry_edge c.args.exe.now ∷ []) (Err c.in-Err.error) v _ _ _ _ c.in-Err.ensures.tour (ap Err c.stop_of_tracing.ensures, refl)
+    tours next c.args.steps (beginning c.args.exe.now (map string_bytes c.args.args.now)) (entry_edge c.args.exe.now ∷ []) (Err c.in-Err.error) v _ _ _ _ c.in-Err.ensures.tour (ap Err c.halt_of_tracing.ensures, refl)

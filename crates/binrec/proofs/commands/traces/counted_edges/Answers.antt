@@ -1,6 +1,6 @@
 use Rattle.std.proofs.Common.{refl}
 use Rattle.binrec.specs.Traces.{counted}
-use Rattle.binrec.proofs.Checking.{blames_on, checks_on}
+use Rattle.top_plan.proofs.Checking.{blames_on, checks_on}
 use Rattle.binrec.proofs.commands.traces.counted_edges.Goals as goal
 
 pub returns-in_err-edges-clause-checks : goal.returns-in_err-edges-clause-checks

@@ -1,7 +1,7 @@
 use Rattle.trace_file.specs.Trace.{trace}
-use Rattle.binrec.specs.Plans.Plan.{Fetches}
+use Rattle.top_plan.specs.Plan.{Fetches}
 use Rattle.binrec.specs.Traces.{counted, edges_of_word}
-use Rattle.binrec.proofs.Plans.Runs.{goes_checked}
+use Rattle.top_plan.proofs.Passes.{goes_checked}
 use Rattle.binrec.proofs.commands.traces.fetch_trace.Goals as goal
 
 pub returns-clause-goes : goal.returns-clause-goes

@@ -2,7 +2,7 @@ use Rattle.std.proofs.Common.{◌≡◌, ◌+◌, ◌∷◌, ◌++◌, [], lengt
 use Rattle.trace_file.specs.Edges.{pairs}
 use Rattle.trace_file.specs.declared.edges.Edges.{Edges}
 use Rattle.binrec.specs.Traces.{traces_part}
-use Rattle.binrec.proofs.Plans.Runs.{passes_on, runs_out}
+use Rattle.top_plan.proofs.Passes.{passes_on, runs_out}
 use Rattle.binrec.proofs.Merging.{next_name, no_name, pushed, traces_begin, with_trace, traces_on, traces_fail, traces_done}
 use Rattle.binrec.proofs.commands.traces.fetch_traces.Goals as goal
 

@@ -1,7 +1,7 @@
 use Rattle.std.proofs.Common.{◌≡◌, ◌≤◌, ◌+◌, ◌-◌, ◌^◌, true, Result}
 use Rattle.guest_sys.specs.declared.answers.SysError.{SysError}
 use Rattle.guest_sys.specs.Machine.{bare}
-use Rattle.guest_sys.specs.Streams.{Streams}
+use Rattle.br_outside.specs.Streams.{Streams}
 use Rattle.guest_run.specs.declared.stop.Stop.{Stop}
 use Rattle.guest_run.specs.Guest.{GuestView, Runs, streams}
 use Rattle.guest_run.proofs.guest.Guest.run.Given as goal

@@ -1,0 +1,11 @@
+pub mod Passes
+pub mod Kept
+pub mod TurnsKept
+pub mod Unread
+pub mod Followed
+pub mod Fronts
+pub mod Interrupted
+pub mod Causes
+pub mod Reported
+pub mod Checking
+pub mod Printing

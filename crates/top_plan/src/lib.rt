@@ -1,0 +1,13 @@
+//! Commands as plans: the calls that they make of the outside, and what a run of a plan comes to. Nothing here names a
+//! command.
+#![tactic(auto)]
+
+pub mod ends;
+pub mod files;
+pub mod print;
+pub mod report;
+
+pub use ends::{Cause, Finish, Halt, Limit, Object, Outcome};
+pub use files::{fetch_file, store_file};
+pub use print::print_text;
+pub use report::{tell, tell_halt};
