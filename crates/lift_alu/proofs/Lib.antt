@@ -1,0 +1,16 @@
+pub mod Grown
+pub mod Emit
+pub mod Parts
+pub mod OperandLaws
+pub mod Frames
+pub mod RowSums
+pub mod Whole
+pub mod RowMoves
+pub mod RowShifts
+pub mod RowBits
+pub mod RowConditions
+pub mod Rows
+pub mod Kept
+pub mod Costs
+pub mod Examples
+pub mod Outs

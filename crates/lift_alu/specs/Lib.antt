@@ -1,0 +1,5 @@
+pub mod Steps
+pub mod Operands
+pub mod Table
+pub mod Lifted
+pub mod Means

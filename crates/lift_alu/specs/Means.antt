@@ -1,0 +1,44 @@
+-- The lines of an instruction do what its step does.
+use Rattle.std.specs.Prelude.{◌≡◌, ℕ, List, ◌++◌, length}
+use Rattle.br_word.specs.Memory.{Region}
+use Rattle.br_word.specs.State.{Processor}
+use Rattle.ia_inst.specs.declared.inst.Inst.{Inst}
+use Rattle.ia_inst.specs.declared.inst.Kind.{Kind}
+use Rattle.ia_inst.specs.declared.inst.Kind.TheVariants.{Plain, Island, Transfer}
+use Rattle.ia_inst.specs.Act.{Next, NextEip, perform}
+use Rattle.ia_inst.specs.Meaning.{meaning}
+use Rattle.ia_inst.specs.Kinds.{flags_read}
+use Rattle.ia_inst.specs.Step.{AllMarked, next_eip}
+use Rattle.ssa_form.specs.declared.form.Line.{Line}
+use Rattle.ssa_form.specs.Value.{Env, fold, AllAllowed, numbered, outs_of, exit_of}
+use Rattle.ssa_form.specs.Agree.{AgreesOn, AreBits, AreRegs, every}
+use Rattle.ssa_form.specs.Same.{HoldsBytes}
+use Rattle.ssa_form.specs.declared.form.Block.{Block}
+use Rattle.lift_alu.specs.Lifted.{lifted}
+
+-- no native instruction
+abbrev pub IsLifted : Kind → Type 0
+IsLifted Plain = Unit {0}
+IsLifted Transfer = Unit {0}
+IsLifted Island = ⊥
+
+-- the block c has new lines behind those of b. From e they are allowed, and then outs, memory and exit
+-- are those of the step
+pub record Reaches (b c : Block) (e : Env) (at : ℕ) (v : Processor) (ms : List Region) (to : NextEip) : Type 0 where
+  pub new : List Line
+  pub lines : c.lines ≡ b.lines ++ new
+  pub allowed : AllAllowed (numbered (length b.lines) new) e
+  pub agrees : AgreesOn every v (outs_of c.outs (fold (numbered (length b.lines) new) e))
+  pub bits : AreBits (outs_of c.outs (fold (numbered (length b.lines) new) e))
+  pub memory : (fold (numbered (length b.lines) new) e).mem ≡ ms
+  pub exit : exit_of c.exit (fold (numbered (length b.lines) new) e) ≡ next_eip to at
+
+-- for any numbers that are the processor's where its marks are set
+abbrev pub LinesMean : Inst → (at n : ℕ) → Block → Type 0
+LinesMean i at n b =
+    (e : Env) (u v : Processor) (ms : List Region) (to : NextEip) →
+    AreRegs u.regs → HoldsBytes e.mem →
+    AgreesOn every u (outs_of b.outs e) → AreBits (outs_of b.outs e) →
+    AllMarked u.marks (flags_read i) →
+    perform (meaning i n u.regs at u.df) 0 u e.mem ≡ Next v ms to →
+    Reaches b (lifted i at n b) e at v ms to

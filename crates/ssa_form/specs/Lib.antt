@@ -1,0 +1,4 @@
+pub mod Value
+pub mod Agree
+pub mod Checked
+pub mod Same
