@@ -23,7 +23,7 @@ impl Piece {
     ghost use Rattle.std.specs.Prelude.{◌≡◌, ◌++◌, ◌∷◌, [], IsTrue, OnOk, OnErr, map};
     ghost use Rattle.ia_inst.specs.Canonical.{valid_of};
     ghost use Rattle.ia_encode.specs.declared.item.Item.TheVariants as items;
-    ghost use Rattle.ia_encode.specs.Items.{IsCondition};
+    ghost use Rattle.ia_encode.specs.Items.{IsCondition, AreValid};
 
     /// No items. It takes no memory.
     pub fn new(alloc: Global) -> Piece
@@ -80,6 +80,15 @@ impl Piece {
         ensures err { OnErr result (self.new ≡ self.old) }
     {
         self.push(Item::Label(name))
+    }
+
+    /// Puts items, whose instructions have encodings and whose jumps have conditions. After want of memory the piece is as before.
+    pub fn append(&mut self, items: &[Item]) -> Result<(), AllocError>
+        requires { AreValid items.now }
+        ensures ok { OnOk result (self.new ≡ self.old ++ items.now) }
+        ensures err { OnErr result (self.new ≡ self.old) }
+    {
+        self.items.extend_from_slice(items)
     }
 
     /// The items, in the order in which they were put. It takes no memory.
