@@ -1,5 +1,5 @@
 -- Items of code: their bytes with every distance filled in, and where they stand (SDM volume 2, JMP and Jcc).
-use Rattle.std.specs.Prelude.{◌≡◌, ℕ, ◌+◌, ◌-◌, ◌^◌, ◌<◌, ◌≤◌, Bool, false, IsTrue, List, [], ◌∷◌, ◌++◌, length, drop, get_or, Option, Some, None, nat_eq, if◌then◌else◌, map, All}
+use Rattle.std.specs.Prelude.{◌≡◌, ℕ, ◌+◌, ◌-◌, ◌^◌, ◌<◌, ◌≤◌, Bool, false, IsTrue, List, [], ◌∷◌, ◌++◌, length, drop, get_or, Option, Some, None, nat_eq, if◌then◌else◌, map}
 use Rattle.br_word.specs.Memory.{Region}
 use Rattle.ia_encode.specs.declared.item.Dest.{Dest}
 use Rattle.ia_encode.specs.declared.item.Dest.TheVariants as dests
@@ -129,4 +129,4 @@ ItemsStand = (code : Region) (dest : Dest → ℕ) (at : ℕ) (items : List Item
 -- Bytes that stand as items are read as the instruction that they encode.
 abbrev pub BytesRead : Type 0
 BytesRead = (code : Region) (dest : Dest → ℕ) (bytes : List ℕ) (items : List Item) (at to : ℕ) (i : Inst) →
-    All (λ b. b < 256) bytes → 0 < length bytes → decode_of bytes ≡ Some (i, length bytes) → Stands dest code at (map item.Byte bytes ++ items) to → Reads code at i (length bytes)
+    ((k : ℕ) → get_or bytes k 0 < 256) → 0 < length bytes → decode_of bytes ≡ Some (i, length bytes) → Stands dest code at (map item.Byte bytes ++ items) to → Reads code at i (length bytes)

@@ -27,9 +27,11 @@ pub fn place(alloc: Global, b: &Block, s: &Split) -> Result<Vec<Option<Place>>, 
     requires split { IsSplit b.now s.now }
     ensures { IfOk result (λ places. places.items ≡ placed b.now s.now) }
 {
+    let body = s.body.as_slice();
+    let sunk = s.sunk.as_slice();
     let mut places = Vec::new(alloc);
     for index in 0..b.lines.len() {
-        let used = s.body[index] || s.sunk[index];
+        let used = body[index] || sunk[index];
         let place = if used && gives(b.lines.line(index)) {
             Some(Place::Slot(FIRST + index as u32))
         } else {

@@ -1,5 +1,6 @@
-use Rattle.std.proofs.Common.{◌≡◌, ◌∙◌, sym, ap, subst, take, length, take-all}
-use Rattle.ia_decode.proofs.Laws.{decode_again, decode_found}
+use Rattle.std.proofs.Common.{◌≡◌, ◌∙◌, ◌<◌, ℕ, zero, suc, List, [], ◌∷◌, sym, ap, subst, take, length, get_or, take_all, arith}
+use Rattle.std.specs.Prelude.{All}
+use Rattle.ia_decode.proofs.EncodingDecides.{decode_again, decode_found}
 use Rattle.ia_encode.proofs.ItemsStand.{own_reads}
 use Rattle.ia_encode.proofs.laws.bytes_read.Goals as goal
 use Rattle.ia_inst.specs.Spells.{Spells}
@@ -7,4 +8,4 @@ use Rattle.ia_inst.specs.Spells.{Spells}
 pub returns : goal.returns
 returns c code dest bytes items at to i fit some spelled st =
     let s = (decode_found bytes (i, length bytes) fit spelled).1 in
-    own_reads dest code bytes items at to i some (λ behind. decode_again bytes behind i (subst (λ w. Spells w i) (take-all bytes) s)) st
+    own_reads dest code bytes items at to i some (λ behind. decode_again bytes behind i (subst (λ w. Spells w i) (take_all bytes) s)) st
