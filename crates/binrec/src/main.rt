@@ -5,41 +5,37 @@
 //! the blocks that they have seen.
 #![tactic(auto)]
 
-mod commands;
+mod arguments;
 #[cfg(test)]
 mod tests;
 mod top;
 mod words;
 
+use arguments::{read_arguments, tell_broken};
 use br_real::{ErrorSink, FileShelf, InputSource, OutputSink};
-use std::alloc::Global;
 use std::process::ExitCode;
-use std::{env, io};
 use top::binrec;
-
-/// The words after the program's name.
-fn words_of(rt: &HostRuntime) -> io::Result<Vec<String>> {
-    let mut words = Vec::new(rt.alloc());
-    for word in env::args(rt)?.skip(1) {
-        words.push(word)?;
-    }
-    Ok(words)
-}
+use top_plan::tell;
 
 /// Does what the words ask for over real files and the standard streams, and ends with the status.
-/// Where the words cannot be taken, memory is wanting, and the status is 4.
+///
+/// A word that is not UTF-8 is a faulty command line. Where the words cannot be taken, memory is wanting, and the status
+/// is 4.
 fn main(rt: HostRuntime) -> ExitCode {
-    let Ok(words) = words_of(&rt) else {
-        let _told = eprintln!(rt; "memory");
-        return ExitCode::from(4);
+    let alloc = rt.alloc();
+    let mut report = ErrorSink::new(rt.stderr());
+    let Ok(arguments) = read_arguments(alloc, &rt) else {
+        return ExitCode::from(tell(&mut report, b"memory\n", 4));
     };
-    let mut shelf = FileShelf::new(rt.alloc(), &rt);
+    if arguments.broken {
+        return ExitCode::from(tell_broken(&mut report, &arguments.texts).0);
+    }
+    let mut shelf = FileShelf::new(alloc, &rt);
     let mut input = InputSource::new(rt.stdin());
     let mut out = OutputSink::new(rt.stdout());
-    let mut report = ErrorSink::new(rt.stderr());
     let status = binrec(
-        rt.alloc(),
-        &words,
+        alloc,
+        &arguments.texts,
         &mut shelf,
         &mut input,
         &mut out,

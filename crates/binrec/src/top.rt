@@ -1,52 +1,78 @@
 //! The top call.
-ghost use Rattle.std.specs.Prelude.{◌≡◌, ℕ, ◌+◌, List, [], Ok, map, string_bytes};
+ghost use Rattle.std.specs.Prelude.{◌≡◌, ◌≤◌, ℕ, ◌+◌, List, [], Ok, map, string_bytes};
+ghost use Rattle.br_outside.specs.Outside.{StreamView};
 ghost use Rattle.top_plan.specs.World.{world};
-ghost use Rattle.top_plan.specs.Plan.{Went};
-ghost use Rattle.top_plan.specs.Happened.{Happened};
+ghost use Rattle.top_plan.specs.Plan.{Plan};
+ghost use Rattle.top_plan.specs.Texts.{end_of, end_line, end_status};
+ghost use Rattle.top_plan.specs.Happened.{TellsLine, Answered};
 ghost use Rattle.top_plan.specs.Expected.{IsExact, IsComplete, HasCause};
 ghost use Rattle.top_plan.specs.Partial.{IsPartial};
-ghost use Rattle.word_reader.specs.Words.{Builds, Traces, Runs, Merges, Shows};
-ghost use Rattle.binrec.specs.Words.{asked_by, first_name};
-ghost use Rattle.binrec.specs.Commands.{plan, end_of};
-ghost use Rattle.binrec.specs.Meaning.{MeansBuild, MeansRun, MeansMerge, MeansShow, MeansUsage};
-ghost use Rattle.binrec.specs.TraceMeaning.{MeansTrace};
+ghost use Rattle.top_plan.specs.Steady.{IsSteady};
+ghost use Rattle.word_reader.specs.Words.{Builds, Traces, Runs, Merges, Shows, first_name};
+ghost use Rattle.word_reader.specs.Reads.{asked_of};
+ghost use Rattle.top_build.specs.BuildMeaning.{MeansBuild};
+ghost use Rattle.top_run.specs.RunMeaning.{MeansRun};
+ghost use Rattle.top_run.specs.TraceMeaning.{MeansTrace};
+ghost use Rattle.top_graph.specs.MergeMeaning.{MeansMerge};
+ghost use Rattle.top_graph.specs.ShowMeaning.{MeansShow};
+ghost use Rattle.binrec.specs.Words.{IsFitting, asked_by};
+ghost use Rattle.binrec.specs.Commands.{plan_of, plan};
+ghost use Rattle.binrec.specs.Meaning.{MeansUsage};
 
-use crate::commands::build::build_command;
-use crate::commands::merge::merge_command;
-use crate::commands::run::run_command;
-use crate::commands::show::show_command;
-use crate::commands::trace::trace_command;
-use crate::words::{first_name, read_command};
+use crate::words::read_command;
 use br_outside::{Shelf, Sink, Source};
-use build_core::image_law;
 use std::alloc::Global;
-use top_plan::{Cause, Halt, Outcome, tell, tell_halt};
-use word_reader::Command;
+use top_build::{build_command, build_law};
+use top_graph::{merge_command, merge_law, show_command, show_law};
+use top_plan::{Halt, Outcome, plan_law, tell_halt, tell_outcome, tell_usage};
+use top_run::{run_command, run_law, trace_command, trace_law};
+use word_reader::{Command, first_name};
 
 /// The status of a command, with which the program ends.
 #[derive(Clone, Copy, Debug, PartialEq, Eq)]
-pub struct Status(pub u8);
+pub struct Status(
+    /// 0 to 7.
+    pub u8,
+);
 
-/// The work of the command, before the report line.
-fn work<F: Shelf, I: Source, O: Sink, R: Sink>(
+/// Reports how the work of a command ended, and answers the status.
+fn tell_end<R: Sink>(report: &mut R, end: Result<Outcome, Halt>) -> u8
+    ensures { TellsLine (end_line (end_of end)) (end_status (end_of end)) (R.seen report.old) result (R.seen report.new) }
+{
+    match end {
+        Ok(outcome) => tell_outcome(report, &outcome),
+        Err(halt) => tell_halt(report, halt),
+    }
+}
+
+/// Does a command, whose first name stands at the position `first`, reports its end, and answers the status.
+fn answer<F: Shelf, I: Source, O: Sink, R: Sink>(
     alloc: Global,
-    words: &[String],
+    command: Command<'_>,
+    first: u32,
     shelf: &mut F,
     input: &mut I,
     out: &mut O,
     report: &mut R,
-) -> Result<Outcome, Halt>
-    ensures { Went (plan (map string_bytes words.now)) (world (F.seen shelf.old) (I.seen input.old) (O.seen out.old) (R.seen report.old)) (end_of result) (world (F.seen shelf.new) (I.seen input.new) (O.seen out.new) (R.seen report.new)) }
+) -> u8
+    requires fitting { IsFitting (asked_of command) }
+    requires first { first ≤ 3 }
+    ensures { Answered (plan_of (asked_of command) first)
+        (world (F.seen shelf.old) (I.seen input.old) (O.seen out.old) (R.seen report.old)) result
+        (world (F.seen shelf.new) (I.seen input.new) (O.seen out.new) (R.seen report.new)) }
 {
-    let first = first_name(words);
-    match read_command(words) {
-        Ok(Command::Build { n, e, .. }) => build_command(alloc, shelf, n, e),
-        Ok(Command::Merge { t, e, traces }) => merge_command(alloc, shelf, t, e, traces),
-        Ok(Command::Run { steps, e, args }) => {
-            run_command(alloc, shelf, input, out, report, steps, e, args, first)
+    match command {
+        Command::Build { n, e, .. } => tell_end(report, build_command(alloc, shelf, n, e)),
+        Command::Merge { t, e, traces } => {
+            tell_end(report, merge_command(alloc, shelf, t, e, traces))
         }
-        Ok(Command::Trace { steps, t, e, args }) => {
-            trace_command(
+        Command::Show { e, traces } => tell_end(report, show_command(alloc, shelf, out, e, traces)),
+        Command::Run { steps, e, args } => {
+            let end = run_command(alloc, shelf, input, out, report, steps, e, args, first);
+            tell_end(report, end)
+        }
+        Command::Trace { steps, t, e, args } => {
+            let end = trace_command(
                 alloc,
                 shelf,
                 input,
@@ -57,11 +83,10 @@ fn work<F: Shelf, I: Source, O: Sink, R: Sink>(
                 e,
                 args,
                 first + 1,
-            )
+            );
+            tell_end(report, end)
         }
-        Ok(Command::Show { e, traces }) => show_command(alloc, shelf, out, e, traces),
-        Ok(_) => Err(Halt::Because(Cause::Usage(0))),
-        Err(at) => Err(Halt::Because(Cause::Usage(at))),
+        Command::Session { .. } | Command::Demo { .. } => tell_usage(report, 0),
     }
 }
 
@@ -100,11 +125,11 @@ fn work<F: Shelf, I: Source, O: Sink, R: Sink>(
 /// After 4 the file may be stored, and after 3 where the report failed; where the store itself failed, what
 /// its name holds is not known. No other name changes.
 ///
-/// The clauses: `happened`, the calls made are those of the command's plan and no others; `exact`
-/// and `complete`, over objects that tell what they hold the answer is the expected one, unless memory
-/// is wanting or an object fails; `partial`, what an interrupted command leaves is a front part of what the
-/// whole one does; `cause`, status 3 names an object whose count rose; `usage`, `build`, `run`,
-/// `trace`, `merge` and `show`, what the statuses mean.
+/// The clauses: `happened`, the calls made are those of the command's plan and no others; `exact` and `complete`, over
+/// objects that tell what they hold the answer is the expected one, unless memory is wanting or an object fails; `partial`,
+/// what an interrupted command leaves is a front part of what the whole one does; `cause`, status 3 names an object whose
+/// count rose; `steady`, a fault stands at the call that met it: the counts rise as the status says and no more; `usage`,
+/// `build`, `run`, `trace`, `merge` and `show`, what the statuses mean.
 pub fn binrec<F: Shelf, I: Source, O: Sink, R: Sink>(
     alloc: Global,
     words: &[String],
@@ -113,43 +138,61 @@ pub fn binrec<F: Shelf, I: Source, O: Sink, R: Sink>(
     out: &mut O,
     report: &mut R,
 ) -> Status
-    ensures happened { Happened (plan (map string_bytes words.now))
+    ensures happened { Answered (plan (map string_bytes words.now))
         (world (F.seen shelf.old) (I.seen input.old) (O.seen out.old) (R.seen report.old)) result.0
         (world (F.seen shelf.new) (I.seen input.new) (O.seen out.new) (R.seen report.new)) }
-    ensures exact { IsExact (plan (map string_bytes words.now))
+    ensures exact { (p : Plan) → plan (map string_bytes words.now) ≡ Ok p → IsExact p
         (world (F.seen shelf.old) (I.seen input.old) (O.seen out.old) (R.seen report.old)) result.0
         (world (F.seen shelf.new) (I.seen input.new) (O.seen out.new) (R.seen report.new)) }
-    ensures complete { IsComplete (plan (map string_bytes words.now))
+    ensures complete { (p : Plan) → plan (map string_bytes words.now) ≡ Ok p → IsComplete p
         (world (F.seen shelf.old) (I.seen input.old) (O.seen out.old) (R.seen report.old)) result.0
         (world (F.seen shelf.new) (I.seen input.new) (O.seen out.new) (R.seen report.new)) }
-    ensures partial { IsPartial (plan (map string_bytes words.now))
+    ensures partial { (p : Plan) → plan (map string_bytes words.now) ≡ Ok p → IsPartial p
         (world (F.seen shelf.old) (I.seen input.old) (O.seen out.old) (R.seen report.old))
         (world (F.seen shelf.new) (I.seen input.new) (O.seen out.new) (R.seen report.new)) }
     ensures cause { HasCause
         (world (F.seen shelf.old) (I.seen input.old) (O.seen out.old) (R.seen report.old)) result.0
         (world (F.seen shelf.new) (I.seen input.new) (O.seen out.new) (R.seen report.new)) }
-    ensures usage { MeansUsage (map string_bytes words.now)
+    ensures steady { IsSteady
         (world (F.seen shelf.old) (I.seen input.old) (O.seen out.old) (R.seen report.old)) result.0
         (world (F.seen shelf.new) (I.seen input.new) (O.seen out.new) (R.seen report.new)) }
-    ensures build { (name original : List ℕ) → asked_by (map string_bytes words.now) ≡ Ok (Builds name original []) → MeansBuild name original
+    ensures usage { MeansUsage (plan (map string_bytes words.now))
         (world (F.seen shelf.old) (I.seen input.old) (O.seen out.old) (R.seen report.old)) result.0
         (world (F.seen shelf.new) (I.seen input.new) (O.seen out.new) (R.seen report.new)) }
-    ensures run { (steps : ℕ) (name : List ℕ) (args : List (List ℕ)) → asked_by (map string_bytes words.now) ≡ Ok (Runs steps name args) → MeansRun steps name args (first_name (map string_bytes words.now))
+    ensures build { (name original : List ℕ) → asked_by (map string_bytes words.now) ≡ Ok (Builds name original [])
+        → MeansBuild name original
         (world (F.seen shelf.old) (I.seen input.old) (O.seen out.old) (R.seen report.old)) result.0
         (world (F.seen shelf.new) (I.seen input.new) (O.seen out.new) (R.seen report.new)) }
-    ensures trace { (steps : ℕ) (target original : List ℕ) (args : List (List ℕ)) → asked_by (map string_bytes words.now) ≡ Ok (Traces steps target original args) → MeansTrace steps target original args (first_name (map string_bytes words.now) + 1)
+    ensures run { (steps : ℕ) (name : List ℕ) (args : List (List ℕ)) → asked_by (map string_bytes words.now) ≡ Ok (Runs steps name args)
+        → MeansRun steps name args (first_name (map string_bytes words.now))
         (world (F.seen shelf.old) (I.seen input.old) (O.seen out.old) (R.seen report.old)) result.0
         (world (F.seen shelf.new) (I.seen input.new) (O.seen out.new) (R.seen report.new)) }
-    ensures show { (original : List ℕ) (names : List (List ℕ)) → asked_by (map string_bytes words.now) ≡ Ok (Shows original names) → MeansShow original names
+    ensures trace { (steps : ℕ) (target original : List ℕ) (args : List (List ℕ))
+        → asked_by (map string_bytes words.now) ≡ Ok (Traces steps target original args)
+        → MeansTrace steps target original args (first_name (map string_bytes words.now) + 1)
         (world (F.seen shelf.old) (I.seen input.old) (O.seen out.old) (R.seen report.old)) result.0
         (world (F.seen shelf.new) (I.seen input.new) (O.seen out.new) (R.seen report.new)) }
-    ensures merge { (target original : List ℕ) (names : List (List ℕ)) → asked_by (map string_bytes words.now) ≡ Ok (Merges target original names) → MeansMerge target original names
+    ensures merge { (target original : List ℕ) (names : List (List ℕ))
+        → asked_by (map string_bytes words.now) ≡ Ok (Merges target original names)
+        → MeansMerge target original names
+        (world (F.seen shelf.old) (I.seen input.old) (O.seen out.old) (R.seen report.old)) result.0
+        (world (F.seen shelf.new) (I.seen input.new) (O.seen out.new) (R.seen report.new)) }
+    ensures show { (original : List ℕ) (names : List (List ℕ)) → asked_by (map string_bytes words.now) ≡ Ok (Shows original names)
+        → MeansShow original names
         (world (F.seen shelf.old) (I.seen input.old) (O.seen out.old) (R.seen report.old)) result.0
         (world (F.seen shelf.new) (I.seen input.new) (O.seen out.new) (R.seen report.new)) }
 {
-    image_law();
-    match work(alloc, words, shelf, input, out, report) {
-        Ok(outcome) => Status(tell(report, outcome.line.as_bytes(), outcome.finish.status())),
-        Err(stop) => Status(tell_halt(alloc, report, stop)),
+    plan_law();
+    build_law();
+    run_law();
+    trace_law();
+    merge_law();
+    show_law();
+    match read_command(words) {
+        Ok(command) => {
+            let first = first_name(words);
+            Status(answer(alloc, command, first, shelf, input, out, report))
+        }
+        Err(word) => Status(tell_usage(report, word)),
     }
 }

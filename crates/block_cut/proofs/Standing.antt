@@ -1,7 +1,7 @@
 -- What stands at an address, and that it lies below the end of the guest's memory.
 use Rattle.std.proofs.Common.{◌≡◌, ℕ, ◌+◌, ◌-◌, ◌<◌, ◌≤◌, Bool, true, false, ◌&&◌, ◌||◌, List, [], ◌∷◌, ◌++◌, length, take, drop, Option, Some, None, refl, sym, ap, ◌∙◌, arith, length-drop, IsTrue}
 use Rattle.std.specs.Prelude.{if◌then◌else◌, IfSome}
-use Rattle.std.proofs.lemmas.List.{take_at}
+use Rattle.std.proofs.lemmas.List.{take_at, take-take, take-append-le, length-take}
 use Rattle.std.proofs.lemmas.Bool.Decides.{nat_tests}
 use Rattle.elf_read.specs.declared.exe.Exe.{Exe}
 use Rattle.elf_read.specs.declared.exe.Segment.{Segment}
@@ -11,9 +11,9 @@ use Rattle.elf_read.proofs.Parts.{length-segment_bytes}
 use Rattle.ia_inst.specs.declared.inst.Inst.{Inst}
 use Rattle.ia_inst.specs.Canonical.{valid_of}
 use Rattle.ia_inst.specs.Instructions.{decode_of}
-use Rattle.ia_inst.specs.Step.{NoCode, found_from}
-use Rattle.ia_decode.proofs.Answered.{decode_take, decode_length, decode_valid}
-use Rattle.ia_decode.proofs.Steps.{IsBytes}
+use Rattle.ia_inst.specs.Step.{NoCode, There, found_from}
+use Rattle.ia_decode.proofs.DecodedInstruction.{decode_take, decode_length, decode_valid}
+use Rattle.ia_decode.proofs.Readers.{IsBytes}
 use Rattle.block_cut.specs.Places.{found_at, inst_found}
 
 -- bytes that are read are bytes, so what they spell is valid
@@ -66,12 +66,26 @@ code_inside low at (s ∷ ss) each some = go (s.perms.exec && in_segment at s) r
     go true e rest some = here e
     go false e rest some = rest some
 
+pub found_size : (exe : Exe) (at : ℕ) (i : Inst) (n : ℕ) → found_at exe at ≡ There i n → 0 < n
+found_size exe at i n e =
+    let l = decode_length (code_at at exe.segments) (i, n) (sym (found_is exe at) ∙ ap inst_found e) in
+    omega (arith, l.0)
+
 -- it is read from the first bytes
 pub read_here : (exe : Exe) (at count : ℕ) (old new : List ℕ) (r : Option (Inst × ℕ)) → count ≡ length (take 15 (code_at at exe.segments)) → new ≡ take 15 (code_at at exe.segments) ++ drop count old → r ≡ decode_of (take count new) → r ≡ inst_found (found_at exe at)
 read_here exe at count old new r len is e =
     let bytes = code_at at exe.segments in
     let front : take count new ≡ take 15 bytes = ap (λ t. take count t) is ∙ take_at (take 15 bytes) _ count (sym len) in
     e ∙ (ap decode_of front ∙ decode_take bytes) ∙ sym (found_is exe at)
+
+-- the bytes that it is read from are the first of the code there
+pub bytes_here : (exe : Exe) (at count n : ℕ) (old new : List ℕ) → count ≡ length (take 15 (code_at at exe.segments)) → new ≡ take 15 (code_at at exe.segments) ++ drop count old → n ≤ length (take count new) → take n new ≡ take n (code_at at exe.segments)
+bytes_here exe at count n old new len is few =
+    let bytes = code_at at exe.segments in
+    let front : take count new ≡ take 15 bytes = ap (λ t. take count t) is ∙ take_at (take 15 bytes) _ count (sym len) in
+    let same = ap length front in
+    let most = length-take 15 bytes in
+    ap (take n) is ∙ take-append-le n (take 15 bytes) (drop count old) (omega (arith, few, same)) ∙ take-take n 15 bytes (omega (arith, few, same, most))
 
 pub inside : (exe : Exe) (at : ℕ) (r : Option (Inst × ℕ)) → IsGuest exe → r ≡ inst_found (found_at exe at) → IfSome r (λ i. at + i.1 ≤ 0xA0000000)
 inside exe at None g e = tt

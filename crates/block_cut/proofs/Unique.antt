@@ -27,7 +27,7 @@ record IsFrom (exe : Exe) (first : Bool) (room at : ℕ) (b : BasicBlock) : Type
 abbrev block : List Placed → End → BasicBlock
 block is e = record { insts = is; end = e }
 
-size_cons : (p : Placed) (is : List Placed) → size_of (p ∷ is) ≡ p.size + size_of is
+pub size_cons : (p : Placed) (is : List Placed) → size_of (p ∷ is) ≡ p.size + size_of is
 size_cons p is = sum_by-cons (λ (p : Placed). p.size) p is
 
 -- ---- what is read is a block

@@ -1,3 +1,4 @@
 pub mod Places
 pub mod Transfers
 pub mod Blocks
+pub mod CountedEdges

@@ -17,6 +17,7 @@ pub record Placed : Type 0 where
 unfoldable pub found_at : Exe → ℕ → Found
 found_at exe at = if is_exec at exe.segments then found_from (decode_of (code_at at exe.segments)) else NoCode
 
+-- the instruction that is found, and how many bytes it has
 abbrev pub inst_found : Found → Option (Inst × ℕ)
 inst_found NoCode = None
 inst_found NoInst = None

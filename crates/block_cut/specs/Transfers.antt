@@ -14,16 +14,19 @@ direct_targets (Jmp rel) n at = wrap (at + n + rel) ∷ []
 direct_targets (Call rel) n at = wrap (at + n + rel) ∷ []
 direct_targets _ n at = []
 
+-- an indirect transfer: a jump or a call by a register or memory, or a return
 abbrev pub is_indirect : Inst → Bool
 is_indirect (JmpRm a) = true
 is_indirect (CallRm a) = true
 is_indirect (Ret pop) = true
 is_indirect _ = false
 
+-- a number is in a list
 abbrev pub is_among : List ℕ → ℕ → Bool
 is_among [] x = false
 is_among (y ∷ ys) x = x == y || is_among ys x
 
+-- what is found at the site is a transfer that may lead to the target
 abbrev pub leads_by : Found → ℕ → ℕ → Bool
 leads_by NoCode site target = false
 leads_by NoInst site target = false

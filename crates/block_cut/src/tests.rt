@@ -3,7 +3,7 @@
 ghost use Rattle.std.specs.Prelude.{◌≡◌, ◌<◌, ◌≤◌, true, false, IfOk, length};
 ghost use Rattle.elf_read.specs.Elf.{IsGuest};
 
-use crate::{Cut, End, cut, following_start, leads};
+use crate::{Cut, End, counts, cut, following_start, instruction_at, leads};
 use elf_read::{Bytes, Exe, Perms, Segment, Segments, in_exec};
 use std::alloc::{AllocError, Global};
 use std::process::Abort;
@@ -61,7 +61,7 @@ fn follow(rt: &impl Abort, exe: &Exe, start: u32) -> Option<u32>
 
 #[test]
 fn cuts_blocks(rt: HostRuntime) -> Result<(), Fail> {
-    // mov eax, 4; int 0x80; jz 08048000; retn; nop; two bytes that spell nothing
+    // mov eax, 4; int 0x80, which is native; jz 08048000; retn; nop; two bytes that spell nothing
     let code = [
         0xb8, 4, 0, 0, 0, 0xcd, 0x80, 0x74, 0xf7, 0xc3, 0x90, 0x0f, 0xff,
     ];
@@ -73,13 +73,13 @@ fn cuts_blocks(rt: HostRuntime) -> Result<(), Fail> {
         last: 0x0804_8000,
     };
     assert_eq!(rt; cut_at(&rt, &exe, 0x0804_8000), before);
-    let island = Cut {
+    let native = Cut {
         count: 1,
         len: 2,
         end: End::Island,
         last: 0x0804_8005,
     };
-    assert_eq!(rt; cut_at(&rt, &exe, 0x0804_8005), island);
+    assert_eq!(rt; cut_at(&rt, &exe, 0x0804_8005), native);
     let transfer = Cut {
         count: 1,
         len: 2,
@@ -185,5 +185,40 @@ fn runs_on_between_segments(rt: HostRuntime) -> Result<(), Fail> {
         last: 0x0804_8002,
     };
     assert_eq!(rt; cut_at(&rt, &exe, 0x0804_8000), unreadable);
+    Ok(())
+}
+
+#[test]
+fn counts_edges(rt: HostRuntime) -> Result<(), Fail> {
+    // jz 08048004; nop; ret; jmp eax
+    let exe = with_code(rt.alloc(), &[0x74, 0x02, 0x90, 0xc3, 0xff, 0xe0])?;
+    assert!(rt; counts(&exe, (0, 0x0804_8000)));
+    assert!(rt; !counts(&exe, (0, 0x0804_8002)));
+    assert!(rt; counts(&exe, (0x0804_8000, 0x0804_8004)));
+    assert!(rt; !counts(&exe, (0x0804_8000, 0x0804_8005)));
+    assert!(rt; !counts(&exe, (0x0804_8002, 0x0804_8003)));
+    assert!(rt; counts(&exe, (0x0804_8003, 0x0804_8005)));
+    assert!(rt; !counts(&exe, (0x0804_8003, 0x0804_8006)));
+    Ok(())
+}
+
+/// Whether an instruction of so many bytes stands at an address, and begins with these two.
+fn stands(exe: &Exe, at: u32, len: u8, first: u8, second: u8) -> bool
+    requires { IsGuest exe.now }
+{
+    match instruction_at(exe, at) {
+        Some(here) => here.len == len && here.bytes[0] == first && here.bytes[1] == second,
+        None => false,
+    }
+}
+
+#[test]
+fn reads_instructions(rt: HostRuntime) -> Result<(), Fail> {
+    // mov eax, 4; int 0x80; two bytes that spell nothing
+    let exe = with_code(rt.alloc(), &[0xb8, 4, 0, 0, 0, 0xcd, 0x80, 0x0f, 0xff])?;
+    assert!(rt; stands(&exe, 0x0804_8000, 5, 0xb8, 4));
+    assert!(rt; stands(&exe, 0x0804_8005, 2, 0xcd, 0x80));
+    assert!(rt; instruction_at(&exe, 0x0804_8007).is_none());
+    assert!(rt; instruction_at(&exe, 0x0804_8009).is_none());
     Ok(())
 }

@@ -7,9 +7,9 @@ use crate::places::placed;
 use elf_read::Exe;
 use ia_inst::Inst;
 
-/// Whether a transfer at an address may lead to another: an indirect one to each, a direct one to its
-/// targets. Where no transfer stands, in no executable segment for one, it is false. The call takes no
-/// memory.
+/// Whether a transfer at the address `site` may lead to the address `target`: an indirect one to each
+/// address, a conditional jump to its target and to the address after it, a jump or a call to its target.
+/// Where no transfer stands, as in no executable segment, it is false. The call takes no memory.
 pub fn leads(exe: &Exe, site: u32, target: u32) -> bool
     requires { IsGuest exe.now }
     ensures { result ≡ leads_to exe.now site target }

@@ -1,5 +1,6 @@
 -- The pairs of a shelf in memory, as a map from names to bytes: the first pair of a name counts.
-use Rattle.std.specs.Prelude.{◌≡◌, ◌<◌, ◌≤◌, Result, Ok, Err, ℕ, List, [], ◌∷◌, length, take, Option, Some, None, cond, string_bytes, String, Vec}
+use Rattle.std.specs.Prelude.{◌≡◌, ◌<◌, ◌≤◌, Result, Ok, Err, ℕ, List, [], ◌∷◌, length, take}
+use Rattle.std.specs.Prelude.{Option, Some, None, cond, string_bytes, String, Vec}
 use Rattle.std.specs.List.{HoldsAt}
 use Rattle.std.specs.Str.{bytes_eq}
 use Rattle.br_outside.specs.declared.errors.ShelfError.{ShelfError}

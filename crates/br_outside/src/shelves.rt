@@ -51,7 +51,8 @@ impl Shelf for MemShelf {
 
     /// Fails exactly where this call's number is listed or there is no such name.
     fn fetch(&mut self, alloc: Global, name: &str, limit: u32) -> Result<Vec<u8>, ShelfError>
-        ensures fetched { Fetched name.now limit (result_map_both (λ v. v.items) (λ e. e) result) (mem_shelf_view self.old) (mem_shelf_view self.new) }
+        ensures fetched { Fetched name.now limit (result_map_both (λ v. v.items) (λ e. e) result)
+            (mem_shelf_view self.old) (mem_shelf_view self.new) }
         ensures failed { IsErrOf result shelf_errors.Failed ↔ (NextFails (shelf_calls self.old) ⊎ (mem_files self.old name.now ≡ None)) }
         ensures counted { shelf_calls self.new ≡ after_call (shelf_calls self.old) (fetch_failed result) }
     {

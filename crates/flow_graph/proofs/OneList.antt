@@ -11,7 +11,7 @@ use Rattle.elf_read.specs.Elf.{AreSegments, IsGuest, in_segment, is_exec}
 use Rattle.elf_read.specs.Code.{code_at}
 use Rattle.ia_inst.specs.declared.inst.Inst.{Inst}
 use Rattle.ia_inst.specs.Step.{There}
-use Rattle.ia_decode.proofs.Answered.{decode_length}
+use Rattle.ia_decode.proofs.DecodedInstruction.{decode_length}
 use Rattle.block_cut.specs.declared.ends.End.{End}
 use Rattle.block_cut.specs.declared.ends.End.TheVariants.{Transfer, Island, BeforeIsland, Unreadable, Full}
 use Rattle.block_cut.specs.Places.{Placed, found_at, inst_found}

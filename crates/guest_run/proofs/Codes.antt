@@ -5,8 +5,8 @@ use Rattle.ia_inst.specs.declared.inst.Inst.{Inst}
 use Rattle.ia_inst.specs.Canonical.{valid_of}
 use Rattle.ia_inst.specs.Instructions.{decode_of}
 use Rattle.ia_inst.specs.Step.{Found, NoInst, There, found_from, found_in}
-use Rattle.ia_decode.proofs.Answered.{decode_take, decode_valid}
-use Rattle.ia_decode.proofs.Steps.{IsBytes}
+use Rattle.ia_decode.proofs.DecodedInstruction.{decode_take, decode_valid}
+use Rattle.ia_decode.proofs.Readers.{IsBytes}
 use Rattle.guest_mem.specs.View.{fetched}
 use Rattle.guest_run.specs.declared.advance.Code.TheVariants as code
 use Rattle.guest_run.specs.Advance.{IsFound}

@@ -6,7 +6,7 @@ use Rattle.ia_inst.specs.declared.inst.Rm.{Rm}
 use Rattle.ia_inst.specs.declared.inst.Rm.TheVariants.{Reg, Mem}
 use Rattle.ia_inst.specs.Operands.{four, extended, fields, address, scaled, Displacement, nothing, byte, word, Based, base, no_base, Memory, sib, plain, Operand, register, memory}
 use Rattle.ia_inst.specs.Reading.{◌>>=◌, byte_at, four_at, displacement_at, based_at, memory_at, fields_at, operand_at, Read}
-use Rattle.ia_decode.proofs.Steps.{IsBytes, bind_some, some, some_is, chosen, Takes, byte_found, four_found, four_again}
+use Rattle.ia_decode.proofs.Readers.{IsBytes, bind_some, some, some_is, chosen, Takes, byte_found, four_found, four_again}
 
 -- ---- what is spelled is read again
 

@@ -1,8 +1,9 @@
 //! Whole instructions.
 
-ghost use Rattle.std.specs.Prelude.{◌≡◌, ℕ, ◌≤◌, List, ◌++◌, length, take, IfSome};
+ghost use Rattle.std.specs.Prelude.{◌≡◌, ℕ, ◌≤◌, List, ◌++◌, length, take, IfSome, IsTrue};
 ghost use Rattle.ia_inst.specs.Spells.{Spells};
 ghost use Rattle.ia_inst.specs.declared.inst.Inst.{Inst};
+ghost use Rattle.ia_inst.specs.Canonical.{valid_of};
 ghost use Rattle.ia_inst.specs.Reading.{Gives};
 ghost use Rattle.ia_inst.specs.Prefixes.{pair_of};
 ghost use Rattle.ia_inst.specs.Instructions.{opcode_at, behind_at, inst_at, decode_of};
@@ -16,6 +17,9 @@ use crate::second::escape;
 use crate::shift::shift;
 use crate::simple::simple;
 use ia_inst::{Inst, Opcode, Prefixes, Rm};
+
+/// The most bytes of an encoding (SDM volume 2, 2.3.11).
+const MOST_BYTES: usize = 15;
 
 /// 91 to 97.
 #[tactic(auto, unfolding(ia_inst::specs::Instructions::opcode_at))]
@@ -94,13 +98,14 @@ fn inst_and_rest(bytes: &[u8]) -> Option<(Inst, &[u8])>
     operands(prefixes, opcode, rest)
 }
 
+/// The instruction and its length, where that is at most 15.
 #[tactic(auto, unfolding(ia_inst::specs::Instructions::decode_of))]
 fn decoded(bytes: &[u8]) -> Option<(Inst, u8)>
     ensures { Gives (λ x. (x.0, x.1)) result (decode_of bytes.now) }
 {
     let (inst, rest) = inst_and_rest(bytes)?;
     let length = bytes.len() - rest.len();
-    if 15 < length {
+    if MOST_BYTES < length {
         return None;
     }
     Some((inst, length as u8))
@@ -109,15 +114,21 @@ fn decoded(bytes: &[u8]) -> Option<(Inst, u8)>
 /// The instruction that the bytes begin with, and the length of its spelling, 1 to 15.
 ///
 /// The spellings are those of `docs/INSTRUCTIONS.md`, which are some of those of the SDM, volume 2. The answer is
-/// `None` exactly where the bytes begin with none of them, also where a spelling is cut off. Each byte is looked at once.
+/// `None` exactly where the bytes begin with none of them, also where a spelling is cut off. The instruction is valid.
+/// At most the first 15 bytes decide, and each is looked at once.
 pub fn decode(bytes: &[u8]) -> Option<(Inst, u8)>
     ensures listed { result ≡ decode_of bytes.now }
 
+    // The first 15 bytes decide.
+    ensures front { result ≡ decode_of (take 15 bytes.now) }
+
     // What is answered is spelled so.
     ensures found { IfSome result (λ x. (x.1 ≤ length bytes.now) × Spells (take x.1 bytes.now) x.0) }
+    ensures valid { IfSome result (λ x. IsTrue (valid_of x.0)) }
+    ensures length { IfSome result (λ x. (1 ≤ x.1) × (x.1 ≤ 15)) }
 
     // A spelling is read, whatever follows it: so there is at most one, and `None` only where there is none.
-    ensures only { (front rest : List ℕ) (i : Inst) → Spells front i → bytes.now ≡ front ++ rest → result ≡ Some (i, length front) }
+    ensures only { (e rest : List ℕ) (i : Inst) → Spells e i → bytes.now ≡ e ++ rest → result ≡ Some (i, length e) }
 {
     decoded(bytes)
 }

@@ -3,6 +3,7 @@
 
 mod arithmetic;
 mod bytes;
+mod decoded;
 mod instruction;
 mod moves;
 mod opcode;
@@ -13,8 +14,9 @@ mod shift;
 mod simple;
 mod uniqueness;
 
+pub use decoded::{encoding_decides, encoding_length, fifteen_bytes_decide, read_is_valid};
 pub use instruction::decode;
-pub use uniqueness::{no_proper_front, one_instruction, one_spelling};
+pub use uniqueness::{one_instruction, one_spelling, prefix_free};
 
 #[cfg(test)]
 mod tests;

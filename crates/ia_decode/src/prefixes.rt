@@ -36,6 +36,7 @@ fn with_one(prefixes: Prefixes, prefix: Prefix) -> Prefixes
     }
 }
 
+/// No prefix.
 pub fn is_bare(prefixes: Prefixes) -> bool
     ensures { result ≡ is_bare prefixes }
 {

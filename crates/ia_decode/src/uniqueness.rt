@@ -1,4 +1,4 @@
-//! Laws on spellings.
+//! Laws on spellings: they are prefix-free.
 
 ghost use Rattle.std.specs.Prelude.{◌≡◌, ℕ, List, [], ◌++◌};
 ghost use Rattle.ia_inst.specs.Spells.{Spells};
@@ -14,7 +14,7 @@ pub fn one_instruction()
     ensures { (bytes : List ℕ) (i j : Inst) → Spells bytes i → Spells bytes j → i ≡ j }
 {}
 
-/// No spelling is a proper front of another.
-pub fn no_proper_front()
+/// The spellings are prefix-free: none is a proper front of another.
+pub fn prefix_free()
     ensures { (front rest : List ℕ) (i j : Inst) → Spells front i → Spells (front ++ rest) j → rest ≡ [] }
 {}

@@ -6,8 +6,8 @@ use Rattle.ia_inst.specs.declared.inst.Inst.{Inst}
 use Rattle.ia_inst.specs.Canonical.{valid_of, canonical}
 use Rattle.ia_inst.specs.Instructions.{decode_of}
 use Rattle.ia_inst.proofs.Written.{canonical_spells}
-use Rattle.ia_decode.proofs.Steps.{some}
-use Rattle.ia_decode.proofs.Laws.{decode_again}
+use Rattle.ia_decode.proofs.Readers.{some}
+use Rattle.ia_decode.proofs.PrefixFree.{decode_again}
 
 pub canonical_back : (i : Inst) (rest : List ℕ) → IsTrue (valid_of i) → decode_of (canonical i ++ rest) ≡ Some (i, length (canonical i))
 canonical_back i rest v = decode_again (canonical i) rest i (canonical_spells i v)

@@ -43,12 +43,13 @@ pub data Act : Type 0 where
   -- the registers, DF and the flags afterwards, and where the next instruction stands
   Ends : (regs : List ℕ) (df : Bool) (changes : Changes) (to : NextEip) → Act
 
--- a flag's value and mark afterwards
+-- a flag's value afterwards
 abbrev pub flag_after : Change → Bool → Bool → Bool
 flag_after Keeps old choice = old
 flag_after (Becomes b) old choice = b
 flag_after IsLeft old choice = choice
 
+-- its mark afterwards
 abbrev pub mark_after : Change → Bool → Bool
 mark_after Keeps old = old
 mark_after (Becomes b) old = true
@@ -103,6 +104,7 @@ perform (Calls n) c u rs = Called n
 perform (Ends regs df ch to) c u rs =
     Next (record { regs = regs; df = df; flags = flags_after ch u.flags c; marks = marks_after ch u.marks }) rs to
 
+-- a fault asks for no further flag
 abbrev pub or_none : {X : Type 0} → Option X → (X → List Flag) → List Flag
 or_none None go = []
 or_none (Some x) go = go x

@@ -24,17 +24,21 @@ imm_valid B8 n = nat_lt n 256
 imm_valid B16 n = nat_lt n 65536
 imm_valid B32 n = nat_lt n 4294967296
 
+-- a base register
 abbrev pub base_valid : Option ℕ → Bool
 base_valid None = true
 base_valid (Some r) = nat_lt r 8
 
+-- an index register, not esp, and its scale (SDM volume 1, 3.7.5)
 abbrev pub index_valid : Option (ℕ × ℕ) → Bool
 index_valid None = true
 index_valid (Some x) = (nat_lt x.0 8 && not (x.0 == 4)) && ((x.1 == 1) || ((x.1 == 2) || ((x.1 == 4) || (x.1 == 8))))
 
+-- an address
 abbrev pub address_valid : Addr → Bool
 address_valid a = base_valid a.base && (index_valid a.index && imm_valid B32 a.disp)
 
+-- a register or an address
 abbrev pub rm_valid : Rm → Bool
 rm_valid (Reg r) = nat_lt r 8
 rm_valid (Mem a) = address_valid a
@@ -46,34 +50,41 @@ move_valid w a (src.Rm (Reg r)) = rm_valid a && nat_lt r 8
 move_valid w (Reg r) (src.Rm (Mem b)) = nat_lt r 8 && address_valid b
 move_valid w (Mem a) (src.Rm (Mem b)) = false
 
+-- the operands of a TEST: the second is a register or an immediate
 abbrev pub test_valid : Width → Rm → Src → Bool
 test_valid w a (src.Imm n) = rm_valid a && imm_valid w n
 test_valid w a (src.Rm (Reg r)) = rm_valid a && nat_lt r 8
 test_valid w a (src.Rm (Mem b)) = false
 
+-- 16 or 32 bits
 abbrev pub is_long : Width → Bool
 is_long B8 = false
 is_long B16 = true
 is_long B32 = true
 
+-- what is pushed
 abbrev pub source_valid : Src → Bool
 source_valid (src.Rm a) = rm_valid a
 source_valid (src.Imm n) = imm_valid B32 n
 
+-- by how much a shift or a rotation goes
 abbrev pub count_valid : Count → Bool
 count_valid (count.Imm n) = imm_valid B8 n
 count_valid count.Cl = true
 
+-- the literal factor of an IMUL, if it has one
 abbrev pub by_valid : Option ℕ → Bool
 by_valid None = true
 by_valid (Some n) = imm_valid B32 n
 
+-- the extensions from one width to another
 abbrev pub widens : Width → Width → Bool
 widens B8 B16 = true
 widens B8 B32 = true
 widens B16 B32 = true
 widens _ _ = false
 
+-- whether an instruction has a spelling
 abbrev pub valid_of : Inst → Bool
 valid_of (Alu k w a s) = nat_lt k 8 && move_valid w a s
 valid_of (Test w a s) = test_valid w a s
@@ -111,22 +122,29 @@ fits_byte d = nat_lt d 0x80 || nat_lt 0xFFFFFF7F d
 abbrev pub mode : ℕ → ℕ → ℕ
 mode r d = if (d == 0) && not (r == 5) then 0 else (if fits_byte d then 1 else 2)
 
+-- what the mod field has follow
 abbrev pub displacement : ℕ → ℕ → List ℕ
 displacement r d = if (d == 0) && not (r == 5) then [] else (if fits_byte d then (d % 256) ∷ [] else four d)
 
 -- the scale field
+-- the field of a scale
 abbrev pub log : ℕ → ℕ
 log s = if s == 1 then 0 else (if s == 2 then 1 else (if s == 4 then 2 else 3))
 
+-- behind a base register, with a SIB byte where there is an index or the base is esp
 abbrev pub based_bytes : ℕ → ℕ → Option (ℕ × ℕ) → ℕ → List ℕ
-based_bytes g r None d = if r == 4 then fields (mode r d) g 4 ∷ fields 0 4 r ∷ displacement r d else fields (mode r d) g r ∷ displacement r d
+based_bytes g r None d =
+    if r == 4 then fields (mode r d) g 4 ∷ fields 0 4 r ∷ displacement r d
+    else fields (mode r d) g r ∷ displacement r d
 based_bytes g r (Some x) d = fields (mode r d) g 4 ∷ fields (log x.1) x.0 r ∷ displacement r d
 
+-- an address, from its ModRM byte on
 abbrev pub memory_bytes : ℕ → Option ℕ → Option (ℕ × ℕ) → ℕ → List ℕ
 memory_bytes g None None d = fields 0 g 5 ∷ four d
 memory_bytes g None (Some x) d = fields 0 g 4 ∷ fields (log x.1) x.0 5 ∷ four d
 memory_bytes g (Some r) index d = based_bytes g r index d
 
+-- a register or an address, with the number in the reg field
 abbrev pub operand_bytes : ℕ → Rm → List ℕ
 operand_bytes g (Reg r) = fields 3 g r ∷ []
 operand_bytes g (Mem a) = memory_bytes g a.base a.index a.disp
@@ -145,8 +163,12 @@ alu_bytes k w a (src.Rm (Reg r)) = pair w (8 * k) ++ operand_bytes r a
 alu_bytes k w (Reg r) (src.Rm (Mem b)) = pair w (8 * k + 2) ++ operand_bytes r (Mem b)
 alu_bytes k w (Mem a) (src.Rm (Mem b)) = []
 alu_bytes k B8 a (src.Imm n) = 0x80 ∷ operand_bytes k a ++ n ∷ []
-alu_bytes k B16 a (src.Imm n) = if fits_extended B16 n then size B16 ++ 0x83 ∷ operand_bytes k a ++ (n % 256) ∷ [] else size B16 ++ 0x81 ∷ operand_bytes k a ++ imm B16 n
-alu_bytes k B32 a (src.Imm n) = if fits_extended B32 n then size B32 ++ 0x83 ∷ operand_bytes k a ++ (n % 256) ∷ [] else size B32 ++ 0x81 ∷ operand_bytes k a ++ imm B32 n
+alu_bytes k B16 a (src.Imm n) =
+    if fits_extended B16 n then size B16 ++ 0x83 ∷ operand_bytes k a ++ (n % 256) ∷ []
+    else size B16 ++ 0x81 ∷ operand_bytes k a ++ imm B16 n
+alu_bytes k B32 a (src.Imm n) =
+    if fits_extended B32 n then size B32 ++ 0x83 ∷ operand_bytes k a ++ (n % 256) ∷ []
+    else size B32 ++ 0x81 ∷ operand_bytes k a ++ imm B32 n
 
 -- rows 7 and 9
 abbrev pub test_bytes : Width → Rm → Src → List ℕ
@@ -187,6 +209,7 @@ abbrev pub imul_bytes : ℕ → Rm → Option ℕ → List ℕ
 imul_bytes g a None = 0x0F ∷ 0xAF ∷ operand_bytes g a
 imul_bytes g a (Some n) = if fits_byte n then 0x6B ∷ operand_bytes g a ++ (n % 256) ∷ [] else 0x69 ∷ operand_bytes g a ++ four n
 
+-- the reg field of a shift
 abbrev pub shift_reg : ShiftOp → ℕ
 shift_reg Shl = 4
 shift_reg Shr = 5
@@ -194,16 +217,21 @@ shift_reg Sar = 7
 
 -- rows 31 to 33
 abbrev pub shift_bytes : ShiftOp → Width → Rm → Count → List ℕ
-shift_bytes op w a (count.Imm n) = if n == 1 then pair w 0xD0 ++ operand_bytes (shift_reg op) a else pair w 0xC0 ++ operand_bytes (shift_reg op) a ++ n ∷ []
+shift_bytes op w a (count.Imm n) =
+    if n == 1 then pair w 0xD0 ++ operand_bytes (shift_reg op) a
+    else pair w 0xC0 ++ operand_bytes (shift_reg op) a ++ n ∷ []
 shift_bytes op w a count.Cl = pair w 0xD2 ++ operand_bytes (shift_reg op) a
 
+-- the reg field of a rotation
 abbrev pub rotate_reg : Bool → ℕ
 rotate_reg false = 0
 rotate_reg true = 1
 
 -- row 34
 abbrev pub rotate_bytes : Bool → Rm → Count → List ℕ
-rotate_bytes right a (count.Imm n) = if n == 1 then 0xD1 ∷ operand_bytes (rotate_reg right) a else 0xC1 ∷ operand_bytes (rotate_reg right) a ++ n ∷ []
+rotate_bytes right a (count.Imm n) =
+    if n == 1 then 0xD1 ∷ operand_bytes (rotate_reg right) a
+    else 0xC1 ∷ operand_bytes (rotate_reg right) a ++ n ∷ []
 rotate_bytes right a count.Cl = 0xD3 ∷ operand_bytes (rotate_reg right) a
 
 -- rows 36 and 37
@@ -220,6 +248,7 @@ string_bytes o B8 true = 0xF3 ∷ o ∷ []
 string_bytes o B16 true = 0x66 ∷ 0xF3 ∷ (o + 1) ∷ []
 string_bytes o B32 true = 0xF3 ∷ (o + 1) ∷ []
 
+-- the canonical spelling: that of the first row of the table that fits, which is not always the shortest
 abbrev pub canonical : Inst → List ℕ
 canonical (Alu k w a s) = alu_bytes k w a s
 canonical (Test w a s) = test_bytes w a s

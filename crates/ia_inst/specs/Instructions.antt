@@ -192,6 +192,7 @@ hint_at c bytes = do
   x ← operand_at bytes
   if x.0 == 0 then Some (inst.Nop, x.2) else None
 
+-- one F3
 abbrev pub is_repeat : Prefixes → Bool
 is_repeat Repeat = true
 is_repeat _ = false

@@ -42,15 +42,17 @@ reg_with B8 r v regs = if nat_lt r 4
     then set regs r (get_or regs r 0 / 256 * 256 + v)
     else set regs (r - 4) (get_or regs (r - 4) 0 / 2 ^ 16 * 2 ^ 16 + v * 256 + get_or regs (r - 4) 0 % 256)
 
--- the parts of an address, and their sum
+-- a base register
 abbrev pub base_of : Option ℕ → List ℕ → ℕ
 base_of None regs = 0
 base_of (Some r) regs = get_or regs r 0
 
+-- an index register times its scale
 abbrev pub index_of : Option (ℕ × ℕ) → List ℕ → ℕ
 index_of None regs = 0
 index_of (Some p) regs = get_or regs p.0 0 * p.1
 
+-- the effective address
 abbrev pub address_of : Addr → List ℕ → ℕ
 address_of a regs = wrap (base_of a.base regs + index_of a.index regs + a.disp)
 
@@ -59,6 +61,7 @@ abbrev pub of_rm : Width → Rm → List ℕ → (ℕ → Act) → Act
 of_rm w (Reg r) regs go = go (reg_value w r regs)
 of_rm w (Mem a) regs go = Load (address_of a regs) (size_of w) go
 
+-- the same of a source
 abbrev pub of_src : Width → Src → List ℕ → (ℕ → Act) → Act
 of_src w (src.Rm rm) regs go = of_rm w rm regs go
 of_src w (src.Imm v) regs go = go v
@@ -169,10 +172,11 @@ rotated right a n =
 
 -- ---- products and quotients of edx:eax
 
--- edx:eax as one number, and the registers with it
+-- edx:eax as one number
 abbrev pub pair_of : List ℕ → ℕ
 pair_of regs = get_or regs 2 0 * 2 ^ 32 + get_or regs 0 0
 
+-- the registers with edx and eax written
 abbrev pub with_pair : ℕ → ℕ → List ℕ → List ℕ
 with_pair high low regs = set (set regs 0 low) 2 high
 

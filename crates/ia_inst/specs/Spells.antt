@@ -37,6 +37,7 @@ imm B8 n = n ∷ []
 imm B16 n = two n
 imm B32 n = four n
 
+-- the numbers of a width are below it
 abbrev pub limit : Width → ℕ
 limit B8 = 2 ^ 8
 limit B16 = 2 ^ 16
@@ -93,9 +94,11 @@ pub data Row : List ℕ → Inst → Type 0 where
   -- 80 /k ib: Alu k, width 8, imm
   row4 : (k n : ℕ) (m : List ℕ) (a : Rm) → Operand m k a → n < 256 → Row (0x80 ∷ m ++ n ∷ []) (Alu k B8 a (src.Imm n))
   -- 83 /k ib, 66: Alu k, width 16 or 32, imm sign extended
-  row5 : (k d : ℕ) (w : Width) (m : List ℕ) (a : Rm) → IsLong w → Operand m k a → d < 256 → Row (size w ++ 0x83 ∷ m ++ d ∷ []) (Alu k w a (src.Imm (extended_to w d)))
+  row5 : (k d : ℕ) (w : Width) (m : List ℕ) (a : Rm)
+      → IsLong w → Operand m k a → d < 256 → Row (size w ++ 0x83 ∷ m ++ d ∷ []) (Alu k w a (src.Imm (extended_to w d)))
   -- 81 /k iz, 66: Alu k, imm
-  row6 : (k n : ℕ) (w : Width) (m : List ℕ) (a : Rm) → IsLong w → Operand m k a → n < limit w → Row (size w ++ 0x81 ∷ m ++ imm w n) (Alu k w a (src.Imm n))
+  row6 : (k n : ℕ) (w : Width) (m : List ℕ) (a : Rm)
+      → IsLong w → Operand m k a → n < limit w → Row (size w ++ 0x81 ∷ m ++ imm w n) (Alu k w a (src.Imm n))
   -- 84, 85 /r, 66: Test rm, reg
   row7 : (g : ℕ) (w : Width) (m : List ℕ) (a : Rm) → Operand m g a → Row (pair w 0x84 ++ m) (Test w a (src.Rm (Reg g)))
   -- A8 ib, A9 iz, 66: Test register 0, imm
@@ -115,7 +118,8 @@ pub data Row : List ℕ → Inst → Type 0 where
   row14_load : (d : ℕ) (w : Width) → d < 2 ^ 32 → Row (pair w 0xA0 ++ four d) (Mov w (Reg 0) (src.Rm (Mem (address None None d))))
   row14_store : (d : ℕ) (w : Width) → d < 2 ^ 32 → Row (pair w 0xA2 ++ four d) (Mov w (Mem (address None None d)) (src.Rm (Reg 0)))
   -- 8D /r, memory only, 66: Lea, width 32 or 16
-  row15 : (g : ℕ) (wide : Bool) (p m : List ℕ) (a : Addr) → Padding p wide → Operand m g (Mem a) → Row (p ++ 0x8D ∷ m) (Lea (if wide then B16 else B32) g a)
+  row15 : (g : ℕ) (wide : Bool) (p m : List ℕ) (a : Addr)
+      → Padding p wide → Operand m g (Mem a) → Row (p ++ 0x8D ∷ m) (Lea (if wide then B16 else B32) g a)
   -- 86, 87 /r, 66: Xchg rm, reg
   row16 : (g : ℕ) (w : Width) (m : List ℕ) (a : Rm) → Operand m g a → Row (pair w 0x86 ++ m) (Xchg w a g)
   -- 90+r, r 1 to 7, 66: Xchg dst r, reg 0, width 32 or 16
@@ -150,21 +154,28 @@ pub data Row : List ℕ → Inst → Type 0 where
   -- 69 /r id: Imul reg, rm, imm
   row30 : (g n : ℕ) (m : List ℕ) (a : Rm) → Operand m g a → n < 2 ^ 32 → Row (0x69 ∷ m ++ four n) (Imul g a (Some n))
   -- D0, D1 /4 /5 /7, 66: Shift Shl Shr Sar by 1
-  row31 : (g : ℕ) (op : ShiftOp) (w : Width) (m : List ℕ) (a : Rm) → ShiftField g op → Operand m g a → Row (pair w 0xD0 ++ m) (Shift op w a (count.Imm 1))
+  row31 : (g : ℕ) (op : ShiftOp) (w : Width) (m : List ℕ) (a : Rm)
+      → ShiftField g op → Operand m g a → Row (pair w 0xD0 ++ m) (Shift op w a (count.Imm 1))
   -- C0, C1 /4 /5 /7 ib, 66: Shift by ib
-  row32 : (g n : ℕ) (op : ShiftOp) (w : Width) (m : List ℕ) (a : Rm) → ShiftField g op → Operand m g a → n < 256 → Row (pair w 0xC0 ++ m ++ n ∷ []) (Shift op w a (count.Imm n))
+  row32 : (g n : ℕ) (op : ShiftOp) (w : Width) (m : List ℕ) (a : Rm)
+      → ShiftField g op → Operand m g a → n < 256 → Row (pair w 0xC0 ++ m ++ n ∷ []) (Shift op w a (count.Imm n))
   -- D2, D3 /4 /5 /7, 66: Shift by cl
-  row33 : (g : ℕ) (op : ShiftOp) (w : Width) (m : List ℕ) (a : Rm) → ShiftField g op → Operand m g a → Row (pair w 0xD2 ++ m) (Shift op w a count.Cl)
+  row33 : (g : ℕ) (op : ShiftOp) (w : Width) (m : List ℕ) (a : Rm)
+      → ShiftField g op → Operand m g a → Row (pair w 0xD2 ++ m) (Shift op w a count.Cl)
   -- D1 /0 /1; C1 /0 /1 ib; D3 /0 /1: Rotate left, right by 1; ib; cl
-  row34_one : (g : ℕ) (right : Bool) (m : List ℕ) (a : Rm) → RotateField g right → Operand m g a → Row (0xD1 ∷ m) (Rotate right a (count.Imm 1))
-  row34_byte : (g n : ℕ) (right : Bool) (m : List ℕ) (a : Rm) → RotateField g right → Operand m g a → n < 256 → Row (0xC1 ∷ m ++ n ∷ []) (Rotate right a (count.Imm n))
+  row34_one : (g : ℕ) (right : Bool) (m : List ℕ) (a : Rm)
+      → RotateField g right → Operand m g a → Row (0xD1 ∷ m) (Rotate right a (count.Imm 1))
+  row34_byte : (g n : ℕ) (right : Bool) (m : List ℕ) (a : Rm)
+      → RotateField g right → Operand m g a → n < 256 → Row (0xC1 ∷ m ++ n ∷ []) (Rotate right a (count.Imm n))
   row34_cl : (g : ℕ) (right : Bool) (m : List ℕ) (a : Rm) → RotateField g right → Operand m g a → Row (0xD3 ∷ m) (Rotate right a count.Cl)
   -- 98; 99: Cwde; Cdq
   row35_cwde : Row (0x98 ∷ []) Cwde
   row35_cdq : Row (0x99 ∷ []) Cdq
   -- 0F B6, 0F BE /r, 66: Extend from 8, zero or signed, to 32 or 16
-  row36_zero : (g : ℕ) (w : Width) (m : List ℕ) (a : Rm) → IsLong w → Operand m g a → Row (size w ++ 0x0F ∷ 0xB6 ∷ m) (Extend false B8 w g a)
-  row36_signed : (g : ℕ) (w : Width) (m : List ℕ) (a : Rm) → IsLong w → Operand m g a → Row (size w ++ 0x0F ∷ 0xBE ∷ m) (Extend true B8 w g a)
+  row36_zero : (g : ℕ) (w : Width) (m : List ℕ) (a : Rm)
+      → IsLong w → Operand m g a → Row (size w ++ 0x0F ∷ 0xB6 ∷ m) (Extend false B8 w g a)
+  row36_signed : (g : ℕ) (w : Width) (m : List ℕ) (a : Rm)
+      → IsLong w → Operand m g a → Row (size w ++ 0x0F ∷ 0xBE ∷ m) (Extend true B8 w g a)
   -- 0F B7, 0F BF /r: Extend from 16, zero or signed, to 32
   row37_zero : (g : ℕ) (m : List ℕ) (a : Rm) → Operand m g a → Row (0x0F ∷ 0xB7 ∷ m) (Extend false B16 B32 g a)
   row37_signed : (g : ℕ) (m : List ℕ) (a : Rm) → Operand m g a → Row (0x0F ∷ 0xBF ∷ m) (Extend true B16 B32 g a)

@@ -21,6 +21,7 @@ abbrev pub found_from : Option (Inst × ℕ) → Found
 found_from None = NoInst
 found_from (Some i) = There i.0 i.1
 
+-- the same, where there are such bytes
 abbrev pub found_in : Option (List ℕ) → Found
 found_in None = NoCode
 found_in (Some bytes) = found_from (decode_of bytes)

@@ -9,13 +9,15 @@ use Rattle.br_outside.specs.declared.errors.StoreError.TheVariants as store_erro
 use Rattle.br_outside.specs.declared.errors.SinkError.TheVariants as sink_errors
 use Rattle.top_plan.specs.World.{World, on_shelf, on_out}
 use Rattle.top_plan.specs.Plan.{Plan, Ends, Fetches, Stores, Prints, Turned, Turns, Went, IsTurned, AfterTurn, GoesOn, FailsInput, FailsOutput, FailsReport, WantsMemory}
-use Rattle.top_plan.specs.Texts.{WorkEnd, end_text, halt_text}
+use Rattle.top_plan.specs.Texts.{WorkEnd, end_line, end_text, end_status, halt_text}
 use Rattle.top_plan.specs.Happened.{Reported, Happened}
 use Rattle.top_plan.specs.Expected.{Ending, stored_before, printed_before, turned_before, expected, NoFiles, NoInput, AllTurns, IsSparing, IsTold}
-use Rattle.top_plan.specs.Partial.{WroteFront, StoredFront, LeftBack, Interrupts, ReportedFront, IsFront, IsPartial, Uses, IsTaking}
+use Rattle.top_plan.specs.Partial.{WroteFront, StoredFront, LeftBack, Interrupts, ReportedFront, IsFront, IsPartial, Uses, IsTaking, IsOrderly}
 use Rattle.top_plan.specs.declared.ends.Halt.{Halt}
 use Rattle.top_plan.specs.declared.ends.Halt.TheVariants.{Outside, Memory}
-use Rattle.top_plan.proofs.Kept.{IsKept, shelf_kept, out_kept, same_kept, report_kept, failed_still}
+use Rattle.top_plan.proofs.Kept.{IsKept, shelf_kept, out_kept, failed_still}
+use Rattle.top_plan.proofs.Telling.{IsTelling, telling, telling_kept}
+use Rattle.top_plan.proofs.TurnsOf.{sparing_of, taking_of}
 use Rattle.top_plan.proofs.TurnsKept.{turned_kept}
 use Rattle.top_plan.proofs.Unread.{input_stays, leaves_all, after_each}
 use Rattle.top_plan.proofs.Followed.{Follows, follows, told_to, fetch_ok, asked, either, stored_files, input_after, used_alone}
@@ -253,12 +255,10 @@ record IsSaid (o : WorkEnd) (m t : World) : Type 0 where
   text : WroteFront (end_text o) m.report.bytes t.report.bytes
 
 said : (o : WorkEnd) (m : World) (result : ℕ) (t : World) → Reported o m result t → IsSaid o m t
-said o m result t (inl gave_up) =
+said o m result t (v, told, same) =
+    let h : IsTelling (end_line o) m.report v = telling (end_line o) (end_status o) m.report result v told in
     let P : World → Type 0 = λ t. IsSaid o m t in
-    subst P (sym gave_up.1) (record { kept = same_kept m m refl; shelf = refl; input = refl; out = refl; text = wrote_none (end_text o) m.report.bytes m.report.bytes refl })
-said o m result t (inr (v, (answer, gave, is), same)) =
-    let P : World → Type 0 = λ t. IsSaid o m t in
-    subst P (sym same) (record { kept = report_kept m v (end_text o) answer gave; shelf = refl; input = refl; out = refl; text = gave_front (end_text o) answer m.report v gave })
+    subst P (sym same) (record { kept = telling_kept (end_line o) m v h; shelf = refl; input = refl; out = refl; text = h.front })
 
 -- a halt's line behind a front part of the report
 halt_said : (e : Ending) (o : WorkEnd) (halt : Halt) (s m t : World) → o ≡ Err halt → WroteFront e.reported s.report.bytes m.report.bytes → Interrupts halt s t → WroteFront (end_text o) m.report.bytes t.report.bytes → ReportedFront e s t
@@ -285,6 +285,8 @@ all_said files left e s o m t followed cut h = record {
   report = line_said files left e s o m t followed cut.report h;
 }
 
-pub partial : (p : Plan) (s : World) (result : ℕ) (t : World) → IsSparing p → IsTaking p → Happened p s result t → IsPartial p s t
-partial p s result t sparing taking (o, m, went, reported) files left told =
-    all_said files left (expected p files left) s o m t (follows p files left s o m sparing told went) (cut p files left s o m sparing taking told went) (said o m result t reported)
+pub partial : (p : Plan) (s : World) (result : ℕ) (t : World) → IsOrderly p → Happened p s result t → IsPartial p s t
+partial p s result t orderly (o, m, went, reported) files left told =
+    let sparing = sparing_of p orderly in
+    let e = expected p files left in
+    all_said files left e s o m t (follows p files left s o m sparing told went) (cut p files left s o m sparing (taking_of p orderly) told went) (said o m result t reported)

@@ -1,9 +1,7 @@
-use Rattle.std.proofs.Common.{◌≡◌, ◌≤◌, ℕ, List, [], ◌++◌, take, Option, Some, None, Result, Ok, Err, refl, sym, ◌∙◌, ap, subst, arith, append_assoc}
+use Rattle.std.proofs.Common.{◌≡◌, ◌≤◌, ℕ, List, [], ◌++◌, Option, Some, None, Result, Ok, Err, refl, sym, ◌∙◌, ap, subst, arith, append_assoc}
 use Rattle.std.specs.Option.{option_map}
 use Rattle.std.proofs.lemmas.List.{append-nil}
-use Rattle.br_outside.specs.Outside.{ShelfView, StreamView, Rose, Gave}
-use Rattle.br_outside.specs.declared.errors.SinkError.{SinkError}
-use Rattle.br_outside.specs.declared.errors.SinkError.TheVariants as sink_errors
+use Rattle.br_outside.specs.Outside.{ShelfView, StreamView, Rose}
 use Rattle.top_plan.specs.World.{World, on_shelf, on_input, on_out, on_report, faults_of, calm_of}
 use Rattle.top_plan.specs.Plan.{planned_end}
 use Rattle.top_plan.specs.Texts.{Finished, WorkEnd}
@@ -63,17 +61,11 @@ out_kept s v h e = record {
   grown = ([], nothing s.report.bytes);
 }
 
--- what a give wrote, whatever it answered
-pub given_text : (text : List ℕ) (answer : Result (Unit {0}) SinkError) (old new : StreamView) → Gave text answer old new → (piece : List ℕ) × (new.bytes ≡ option_map (λ w. w ++ piece) old.bytes)
-given_text text (Ok u) old new gave = (text, gave.gives.0)
-given_text text (Err sink_errors.Failed) old new gave = (take gave.gives.0.0 text, gave.gives.0.1)
-given_text text (Err sink_errors.Memory) old new gave = ([], gave.gives.0 ∙ nothing old.bytes)
-
-pub report_kept : (s : World) (v : StreamView) (text : List ℕ) (answer : Result (Unit {0}) SinkError) → Gave text answer s.report v → IsKept s (on_report s v)
-report_kept s v text answer gave = record {
-  later = elim [ objects.Shelf ↦ omega arith | objects.Input ↦ omega arith | objects.Output ↦ omega arith | objects.Report ↦ gave.later ];
-  calm = elim [ objects.Shelf ↦ refl | objects.Input ↦ refl | objects.Output ↦ refl | objects.Report ↦ gave.calm ];
-  grown = given_text text answer s.report v gave;
+pub report_kept : (s : World) (v : StreamView) → s.report.faults ≤ v.faults → v.calm ≡ s.report.calm → ((text : List ℕ) × (v.bytes ≡ option_map (λ w. w ++ text) s.report.bytes)) → IsKept s (on_report s v)
+report_kept s v h e grown = record {
+  later = elim [ objects.Shelf ↦ omega arith | objects.Input ↦ omega arith | objects.Output ↦ omega arith | objects.Report ↦ h ];
+  calm = elim [ objects.Shelf ↦ refl | objects.Input ↦ refl | objects.Output ↦ refl | objects.Report ↦ e ];
+  grown = grown;
 }
 
 pub rises : (a b c : ℕ) → a ≤ b → Rose b c → Rose a c

@@ -1,5 +1,6 @@
 -- What a plan comes to over objects that tell what they hold, where nothing fails, and what this says of a run.
-use Rattle.std.specs.Prelude.{◌≡◌, ◌⊎◌, ◌<◌, ◌≤◌, ◌+◌, ◌-◌, ◌^◌, nat_le, ℕ, List, [], ◌∷◌, ◌++◌, length, drop, Option, Some, None, Err, cond, IsTrue}
+use Rattle.std.specs.Prelude.{◌≡◌, ◌⊎◌, ◌<◌, ◌≤◌, ◌+◌, ◌-◌, ◌^◌, nat_le, ℕ, List, [], ◌∷◌, ◌++◌, length, drop}
+use Rattle.std.specs.Prelude.{Option, Some, None, Err, cond, IsTrue}
 use Rattle.std.specs.Option.{option_map}
 use Rattle.br_outside.specs.Files.{Files, put}
 use Rattle.br_outside.specs.Outside.{Rose}
@@ -33,7 +34,8 @@ ends_with end files left = record { end = end; files = files; stored = []; left 
 
 abbrev pub after_fetch : ℕ → (List ℕ → Ending) → Files → List ℕ → Option (List ℕ) → Ending
 after_fetch limit next files left None = ends_with (Err (Outside objects.Shelf)) files left
-after_fetch limit next files left (Some bytes) = cond (nat_le (length bytes) limit) (next bytes) (ends_with (Err (Because (Limited (limits.File limit)))) files left)
+after_fetch limit next files left (Some bytes) =
+    cond (nat_le (length bytes) limit) (next bytes) (ends_with (Err (Because (Limited (limits.File limit)))) files left)
 
 abbrev pub stored_before : List ℕ → List ℕ → Ending → Ending
 stored_before name bytes e = record e { stored = record { name = name; bytes = bytes } ∷ e.stored }
@@ -76,7 +78,7 @@ AllTurns P (Stores name bytes next) = AllTurns P next
 AllTurns P (Prints text next) = AllTurns P next
 AllTurns P (Turns turn next) = (left : List ℕ) → AllTurns P (next left) × P (turn left) left (next left)
 
--- a turn after which more of the input may be taken than it uses is the last one that reads
+-- A turn after which more of the input may be taken than it uses is the last one that reads.
 abbrev pub IsSparing : Plan → Type 0
 IsSparing = AllTurns (λ turned left rest. (turned.spare ≡ 0) ⊎ NoInput rest)
 
@@ -108,7 +110,8 @@ abbrev pub Decided : Files → List ℕ → Ending → World → ℕ → World �
 Decided files left e s result t = (result ≡ 4) ⊎ ((result ≡ 3) × (x : Object) × HasFailed x s t) ⊎ IsWhole files left e s result t
 
 abbrev pub IsExact : Plan → World → ℕ → World → Type 0
-IsExact plan s result t = (files : Files) (left : List ℕ) → IsTold plan files left s → Decided files left (expected plan files left) s result t
+IsExact plan s result t =
+    (files : Files) (left : List ℕ) → IsTold plan files left s → Decided files left (expected plan files left) s result t
 
 -- the counts are what they were, and below their greatest value
 abbrev pub IsUnchanged : World → World → Type 0
@@ -119,10 +122,15 @@ pub record IsCalm (e : Ending) (s : World) : Type 0 where
   pub calm : (x : Object) → IsTrue (calm_of x s)
   pub there : e.end ≡ Err (Outside objects.Shelf) → ⊥
 
+-- all was done as expected, and each name that is fetched was there; or memory was wanting
+abbrev pub Completed : Files → List ℕ → Ending → World → ℕ → World → Type 0
+Completed files left e s result t = (result ≡ 4) ⊎ (IsWhole files left e s result t × (e.end ≡ Err (Outside objects.Shelf) → ⊥))
+
 -- Where no count rose, or all is calm and there, all was done as expected, unless memory was wanting.
 abbrev pub IsComplete : Plan → World → ℕ → World → Type 0
-IsComplete plan s result t = (files : Files) (left : List ℕ) → IsTold plan files left s → IsUnchanged s t ⊎ IsCalm (expected plan files left) s →
-    (result ≡ 4) ⊎ (IsWhole files left (expected plan files left) s result t × ((expected plan files left).end ≡ Err (Outside objects.Shelf) → ⊥))
+IsComplete plan s result t =
+    (files : Files) (left : List ℕ) → IsTold plan files left s → IsUnchanged s t ⊎ IsCalm (expected plan files left) s
+    → Completed files left (expected plan files left) s result t
 
 -- what was written grew by something and then this text
 abbrev pub EndsWith : List ℕ → Option (List ℕ) → Option (List ℕ) → Type 0

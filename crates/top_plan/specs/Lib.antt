@@ -5,3 +5,5 @@ pub mod Parts
 pub mod Happened
 pub mod Expected
 pub mod Partial
+pub mod Steady
+pub mod Outcomes

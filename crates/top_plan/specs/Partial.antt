@@ -6,7 +6,7 @@ use Rattle.br_outside.specs.Outside.{SameBut}
 use Rattle.top_plan.specs.World.{World}
 use Rattle.top_plan.specs.Plan.{Plan, Turned}
 use Rattle.top_plan.specs.Texts.{end_text, halt_text}
-use Rattle.top_plan.specs.Expected.{Store, Ending, expected, AllTurns, IsTold, HasFailed}
+use Rattle.top_plan.specs.Expected.{Store, Ending, expected, NoInput, AllTurns, IsTold, HasFailed}
 use Rattle.top_plan.specs.declared.ends.Halt.{Halt}
 use Rattle.top_plan.specs.declared.ends.Halt.TheVariants.{Because, Outside, Memory}
 use Rattle.top_plan.specs.declared.ends.Object.TheVariants as objects
@@ -59,3 +59,7 @@ pub record Uses (turned : Turned) (left : List ℕ) : Type 0 where
 -- so does each turn of the plan
 abbrev pub IsTaking : Plan → Type 0
 IsTaking = AllTurns (λ turned left rest. Uses turned left)
+
+-- and the one after which spare bytes may be taken is the last one that reads
+abbrev pub IsOrderly : Plan → Type 0
+IsOrderly = AllTurns (λ turned left rest. Uses turned left × ((turned.spare ≡ 0) ⊎ NoInput rest))

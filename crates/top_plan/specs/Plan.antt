@@ -135,14 +135,27 @@ abbrev pub planned_end : Result Finished Cause → WorkEnd
 planned_end (Ok done) = Ok done
 planned_end (Err cause) = Err (Because cause)
 
+-- the shelf was asked, and what comes then
+abbrev pub Fetching : List ℕ → ℕ → (List ℕ → Run) → Run
+Fetching name limit next s o t =
+    (v : ShelfView) × (answer : Result (List ℕ) ShelfError) × Fetched name limit answer s.shelf v
+    × AfterFetch limit next answer (on_shelf s v) o t
+
+abbrev pub Storing : List ℕ → List ℕ → Run → Run
+Storing name bytes next s o t =
+    (v : ShelfView) × (answer : Result (Unit {0}) StoreError) × Stored name bytes answer s.shelf v
+    × AfterStore next answer (on_shelf s v) o t
+
+-- the output was given the text, and what comes then
+abbrev pub Printing : List ℕ → Run → Run
+Printing text next s o t =
+    (v : StreamView) × (answer : Result (Unit {0}) SinkError) × Gave text answer s.out v
+    × AfterGive objects.Output next answer (on_out s v) o t
+
 -- A run of the plan may end so and leave this.
 unfoldable pub Went : Plan → Run
 Went (Ends end) s o t = RunsOut s o t ⊎ ((o ≡ planned_end end) × (t ≡ s))
-Went (Fetches name limit next) s o t = RunsOut s o t
-    ⊎ ((v : ShelfView) × (answer : Result (List ℕ) ShelfError) × Fetched name limit answer s.shelf v × AfterFetch limit (λ bytes. Went (next bytes)) answer (on_shelf s v) o t)
-Went (Stores name bytes next) s o t = RunsOut s o t
-    ⊎ ((v : ShelfView) × (answer : Result (Unit {0}) StoreError) × Stored name bytes answer s.shelf v × AfterStore (Went next) answer (on_shelf s v) o t)
-Went (Prints text next) s o t = RunsOut s o t
-    ⊎ ((v : StreamView) × (answer : Result (Unit {0}) SinkError) × Gave text answer s.out v × AfterGive objects.Output (Went next) answer (on_out s v) o t)
-Went (Turns turn next) s o t = RunsOut s o t
-    ⊎ ((left : List ℕ) × Tells left s.input × AfterTurn (turn left) left (Went (next left)) s o t)
+Went (Fetches name limit next) s o t = RunsOut s o t ⊎ Fetching name limit (λ bytes. Went (next bytes)) s o t
+Went (Stores name bytes next) s o t = RunsOut s o t ⊎ Storing name bytes (Went next) s o t
+Went (Prints text next) s o t = RunsOut s o t ⊎ Printing text (Went next) s o t
+Went (Turns turn next) s o t = RunsOut s o t ⊎ ((left : List ℕ) × Tells left s.input × AfterTurn (turn left) left (Went (next left)) s o t)

@@ -1,25 +1,34 @@
 -- The report lines and the statuses.
-use Rattle.std.specs.Prelude.{ℕ, List, ◌++◌, codes, Result, Ok, Err}
+use Rattle.std.specs.Prelude.{ℕ, List, [], ◌++◌, codes, string_bytes, Option, Some, None, Result, Ok, Err}
+use Rattle.std.specs.Option.{option_map}
 use Rattle.std.specs.Fmt.{decimal}
 use Rattle.top_plan.specs.declared.ends.Finish.{Finish}
 use Rattle.top_plan.specs.declared.ends.Finish.TheVariants as finishes
 use Rattle.top_plan.specs.declared.ends.Halt.{Halt}
 use Rattle.top_plan.specs.declared.ends.Halt.TheVariants.{Because, Outside, Memory}
 use Rattle.top_plan.specs.declared.ends.Cause.{Cause}
-use Rattle.top_plan.specs.declared.ends.Cause.TheVariants.{Usage, RefusedWord, Limited}
+use Rattle.top_plan.specs.declared.ends.Cause.TheVariants.{RefusedWord, RefusedLine, Limited}
 use Rattle.top_plan.specs.declared.ends.Object.{Object}
 use Rattle.top_plan.specs.declared.ends.Object.TheVariants as objects
 use Rattle.top_plan.specs.declared.ends.Limit.{Limit}
 use Rattle.top_plan.specs.declared.ends.Limit.TheVariants as limits
+use Rattle.top_plan.specs.declared.ends.Outcome.{Outcome}
 
--- work that is done: how, and the line to report
+-- work that is done: how, and the line to report, where there is one
 pub record Finished : Type 0 where
   pub finish : Finish
-  pub line : List ℕ
+  pub line : Option (List ℕ)
 
--- how the work of a command ends
+-- how the work of a command ends: it is done, or it is not
 abbrev pub WorkEnd : Type 0
 WorkEnd = Result Finished Halt
+
+-- the answer of a function that does the work, as such an end
+abbrev pub end_of : Result Outcome Halt → WorkEnd
+end_of (Ok outcome) = Ok (record { finish = outcome.finish; line = option_map string_bytes outcome.line })
+end_of (Err halt) = Err halt
+
+-- ---- the texts
 
 abbrev pub object_text : Object → List ℕ
 object_text objects.Shelf = codes "outside shelf\n"
@@ -27,15 +36,36 @@ object_text objects.Input = codes "outside input\n"
 object_text objects.Output = codes "outside output\n"
 object_text objects.Report = codes "outside report\n"
 
+-- a limit's name before its number
+abbrev pub limit_name : Limit → List ℕ
+limit_name (limits.File number) = codes "limit file "
+limit_name (limits.Edges number) = codes "limit edges "
+limit_name (limits.Union number) = codes "limit union "
+limit_name (limits.Blocks number) = codes "limit blocks "
+limit_name (limits.Code number) = codes "limit code "
+limit_name (limits.Traces number) = codes "limit traces "
+limit_name (limits.Lines number) = codes "limit lines "
+
+abbrev pub limit_number : Limit → ℕ
+limit_number (limits.File number) = number
+limit_number (limits.Edges number) = number
+limit_number (limits.Union number) = number
+limit_number (limits.Blocks number) = number
+limit_number (limits.Code number) = number
+limit_number (limits.Traces number) = number
+limit_number (limits.Lines number) = number
+
+-- `limit NAME NUMBER`
 abbrev pub limit_text : Limit → List ℕ
-limit_text (limits.File number) = codes "limit file " ++ (decimal number ++ codes "\n")
-limit_text limits.Edges = codes "limit edges 16777216\n"
-limit_text limits.Union = codes "limit union 2000000\n"
-limit_text limits.Blocks = codes "limit blocks 65536\n"
+limit_text limit = limit_name limit ++ (decimal (limit_number limit) ++ codes "\n")
+
+-- where it stands, the refusal's number, and the place
+abbrev pub refused_text : ℕ → ℕ → ℕ → List ℕ
+refused_text at number place = decimal at ++ (codes " " ++ (decimal number ++ (codes " " ++ (decimal place ++ codes "\n"))))
 
 abbrev pub cause_text : Cause → List ℕ
-cause_text (Usage word) = codes "usage " ++ (decimal word ++ codes "\n")
-cause_text (RefusedWord word number place) = codes "refused word " ++ (decimal word ++ (codes " " ++ (decimal number ++ (codes " " ++ (decimal place ++ codes "\n")))))
+cause_text (RefusedWord word number place) = codes "refused word " ++ refused_text word number place
+cause_text (RefusedLine line number place) = codes "refused line " ++ refused_text line number place
 cause_text (Limited limit) = limit_text limit
 
 abbrev pub halt_text : Halt → List ℕ
@@ -43,9 +73,24 @@ halt_text (Because cause) = cause_text cause
 halt_text (Outside object) = object_text object
 halt_text Memory = codes "memory\n"
 
+-- words that are no command: the position of the first that is wrong, or their number where one is missing
+abbrev pub usage_text : ℕ → List ℕ
+usage_text word = codes "usage " ++ (decimal word ++ codes "\n")
+
+-- the report line of an end, where it has one
+abbrev pub end_line : WorkEnd → Option (List ℕ)
+end_line (Ok done) = done.line
+end_line (Err halt) = Some (halt_text halt)
+
+abbrev pub line_text : Option (List ℕ) → List ℕ
+line_text None = []
+line_text (Some text) = text
+
+-- what is reported at an end: its line, or nothing
 abbrev pub end_text : WorkEnd → List ℕ
-end_text (Ok done) = done.line
-end_text (Err halt) = halt_text halt
+end_text end = line_text (end_line end)
+
+-- ---- the statuses
 
 abbrev pub finish_status : Finish → ℕ
 finish_status finishes.Done = 0
@@ -53,8 +98,8 @@ finish_status finishes.Fault = 5
 finish_status finishes.Budget = 6
 
 abbrev pub cause_status : Cause → ℕ
-cause_status (Usage word) = 1
 cause_status (RefusedWord word number place) = 2
+cause_status (RefusedLine line number place) = 2
 cause_status (Limited limit) = 7
 
 abbrev pub halt_status : Halt → ℕ

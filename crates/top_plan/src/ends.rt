@@ -19,22 +19,40 @@ pub enum Limit {
     /// The most bytes of a file that is fetched.
     File(u32),
     /// The most edges of all traces that are given.
-    Edges,
+    Edges(u32),
     /// The most edges that are stored as one trace.
-    Union,
+    Union(u32),
     /// The most blocks of a graph.
-    Blocks,
+    Blocks(u32),
+    /// The most bytes of recovered code.
+    Code(u32),
+    /// The most traces that a session holds at once.
+    Traces(u32),
+    /// The most lines of a script.
+    Lines(u32),
 }
 
-/// What the words, or the files that they name, are refused for.
+/// What a file or a line of a script is refused for, or the limit that is passed.
 #[derive(Clone, Copy, Debug, PartialEq, Eq)]
 pub enum Cause {
-    /// The words are no command: the position of the first word that is wrong, from 0, or the
-    /// number of words where one is missing.
-    Usage(u32),
-    /// A fetched file is refused: the position of its word, the number of the refusal, and the
-    /// place in the file.
-    RefusedWord { word: u32, number: u32, place: u32 },
+    /// A fetched file is refused.
+    RefusedWord {
+        /// The position of the file's word, from 0.
+        word: u32,
+        /// The number of the refusal.
+        number: u32,
+        /// The place in the file.
+        place: u32,
+    },
+    /// A line of a script is refused.
+    RefusedLine {
+        /// The number of the line, from 1.
+        line: u32,
+        /// The number of the refusal.
+        number: u32,
+        /// The place in the line.
+        place: u32,
+    },
     /// A limit is passed.
     Limited(Limit),
 }
@@ -42,6 +60,7 @@ pub enum Cause {
 /// Why the work of a command is not done.
 #[derive(Clone, Copy, Debug, PartialEq, Eq)]
 pub enum Halt {
+    /// A refusal, or a limit.
     Because(Cause),
     /// A call of this object failed.
     Outside(Object),
@@ -52,6 +71,7 @@ pub enum Halt {
 /// How work that is done ends.
 #[derive(Clone, Copy, Debug, PartialEq, Eq)]
 pub enum Finish {
+    /// All was done; a guest has exited.
     Done,
     /// The guest faulted.
     Fault,
@@ -59,9 +79,11 @@ pub enum Finish {
     Budget,
 }
 
-/// Work that is done: how, and the line to report.
+/// Work that is done.
 #[derive(Debug, Drop)]
 pub struct Outcome {
+    /// How it ended.
     pub finish: Finish,
-    pub line: String,
+    /// The line to report, LF included; `None` where nothing is reported.
+    pub line: Option<String>,
 }

@@ -17,7 +17,8 @@ pub fn fetch_file<F: Shelf>(
     name: &str,
     limit: u32,
 ) -> Result<Vec<u8>, Halt>
-    ensures goes { (w : World) → Goes (λ v. v.items) (Fetches name.now limit) (on_shelf w (F.seen shelf.old)) result (on_shelf w (F.seen shelf.new)) }
+    ensures goes { (w : World) → Goes (λ v. v.items) (Fetches name.now limit)
+        (on_shelf w (F.seen shelf.old)) result (on_shelf w (F.seen shelf.new)) }
     ensures short { IfOk result (λ v. length v.items ≤ limit) }
 {
     match shelf.fetch(alloc, name, limit) {
@@ -31,7 +32,8 @@ pub fn fetch_file<F: Shelf>(
 /// Makes the bytes the content of the name. The error is a failure of the shelf, after which the
 /// content of the name is not known, or want of memory, after which it is as before.
 pub fn store_file<F: Shelf>(shelf: &mut F, name: &str, bytes: &[u8]) -> Result<(), Halt>
-    ensures { (w : World) → Goes (λ x. x) (λ next. Stores name.now bytes.now (next tt)) (on_shelf w (F.seen shelf.old)) result (on_shelf w (F.seen shelf.new)) }
+    ensures { (w : World) → Goes (λ x. x) (λ next. Stores name.now bytes.now (next tt))
+        (on_shelf w (F.seen shelf.old)) result (on_shelf w (F.seen shelf.new)) }
 {
     match shelf.store(name, bytes) {
         Ok(()) => Ok(()),

@@ -4,10 +4,15 @@
 
 pub mod ends;
 pub mod files;
+mod law;
+mod line;
 pub mod print;
 pub mod report;
+#[cfg(test)]
+mod tests;
 
 pub use ends::{Cause, Finish, Halt, Limit, Object, Outcome};
 pub use files::{fetch_file, store_file};
+pub use law::plan_law;
 pub use print::print_text;
-pub use report::{tell, tell_halt};
+pub use report::{tell, tell_halt, tell_outcome, tell_usage};

@@ -9,7 +9,8 @@ use br_outside::{Sink, SinkError};
 /// Prints a text at once, unless it is empty. The error is a failure of the output, after which a front
 /// part of the text was written, or want of memory, after which nothing was.
 pub fn print_text<O: Sink>(out: &mut O, text: &[u8]) -> Result<(), Halt>
-    ensures { (w : World) → Goes (λ x. x) (λ next. prints text.now (next tt)) (on_out w (O.seen out.old)) result (on_out w (O.seen out.new)) }
+    ensures { (w : World) → Goes (λ x. x) (λ next. prints text.now (next tt))
+        (on_out w (O.seen out.old)) result (on_out w (O.seen out.new)) }
 {
     if text.is_empty() {
         return Ok(());

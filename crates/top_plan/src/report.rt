@@ -1,11 +1,12 @@
 //! The report line and the status.
-ghost use Rattle.std.specs.Prelude.{◌≡◌, IfOk, string_bytes};
-ghost use Rattle.top_plan.specs.Texts.{object_text, limit_text, cause_text, cause_status, finish_status};
-ghost use Rattle.top_plan.specs.Happened.{Tells, TellsHalt};
+ghost use Rattle.std.specs.Prelude.{◌≡◌, Some, string_bytes};
+ghost use Rattle.std.specs.Option.{option_map};
+ghost use Rattle.top_plan.specs.Texts.{object_text, cause_text, halt_text, usage_text, finish_status, cause_status, halt_status};
+ghost use Rattle.top_plan.specs.Happened.{Tells, TellsLine};
 
-use crate::ends::{Cause, Finish, Halt, Limit, Object};
+use crate::ends::{Cause, Finish, Halt, Object, Outcome};
+use crate::line::{LINE_ROOM, write_usage};
 use br_outside::{Sink, SinkError};
-use std::alloc::{AllocError, Global};
 
 impl Object {
     /// The report line where a call of this object failed.
@@ -22,7 +23,7 @@ impl Object {
 }
 
 impl Finish {
-    /// The status of work that is done.
+    /// The status of work that is done: 0, 5 where a guest faulted, or 6 where it took all its steps.
     pub fn status(self) -> u8
         ensures { result ≡ finish_status self }
     {
@@ -34,49 +35,20 @@ impl Finish {
     }
 }
 
-impl Limit {
-    /// The report line where the limit is passed.
-    fn line(self, alloc: Global) -> Result<String, AllocError>
-        ensures { IfOk result (λ text. string_bytes text ≡ limit_text self) }
-    {
-        match self {
-            Limit::File(number) => format!(in alloc; "limit file {number}\n"),
-            Limit::Edges => String::from_str(alloc, "limit edges 16777216\n"),
-            Limit::Union => String::from_str(alloc, "limit union 2000000\n"),
-            Limit::Blocks => String::from_str(alloc, "limit blocks 65536\n"),
-        }
-    }
-}
-
 impl Cause {
-    /// The status of a cause.
+    /// The status of a cause: 2 where a file or a line is refused, 7 where a limit is passed.
     pub fn status(self) -> u8
         ensures { result ≡ cause_status self }
     {
         match self {
-            Cause::Usage(_) => 1,
-            Cause::RefusedWord { .. } => 2,
+            Cause::RefusedWord { .. } | Cause::RefusedLine { .. } => 2,
             Cause::Limited(_) => 7,
-        }
-    }
-
-    /// The report line of a cause.
-    pub fn line(self, alloc: Global) -> Result<String, AllocError>
-        ensures { IfOk result (λ text. string_bytes text ≡ cause_text self) }
-    {
-        match self {
-            Cause::Usage(word) => format!(in alloc; "usage {word}\n"),
-            Cause::RefusedWord {
-                word,
-                number,
-                place,
-            } => format!(in alloc; "refused word {word} {number} {place}\n"),
-            Cause::Limited(limit) => limit.line(alloc),
         }
     }
 }
 
-/// Gives a report line, and answers the status: 3 where the sink failed, 4 where it lacked memory.
+/// Gives a report line, and answers the status: 3 where the report failed, after which a front part of the line was
+/// written, and 4 where it had no memory, after which nothing was.
 pub fn tell<R: Sink>(report: &mut R, line: &[u8], status: u8) -> u8
     ensures { Tells line.now status (R.seen report.old) result (R.seen report.new) }
 {
@@ -87,16 +59,44 @@ pub fn tell<R: Sink>(report: &mut R, line: &[u8], status: u8) -> u8
     }
 }
 
-/// Gives the report line of work that is not done, and answers the status.
-pub fn tell_halt<R: Sink>(alloc: Global, report: &mut R, halt: Halt) -> u8
-    ensures { TellsHalt halt (R.seen report.old) result (R.seen report.new) }
+/// Gives the report line of a cause, and answers the status. It takes no memory of its own.
+fn tell_cause<R: Sink>(report: &mut R, cause: Cause) -> u8
+    ensures { Tells (cause_text cause) (cause_status cause) (R.seen report.old) result (R.seen report.new) }
+{
+    let mut line = [0u8; LINE_ROOM];
+    let start = cause.write(&mut line);
+    tell(report, &line[start..], cause.status())
+}
+
+/// Gives the report line of work that is not done, and answers the status: that of the cause, 3 where a call of an object
+/// failed, 4 where memory was wanting. It takes no memory of its own.
+pub fn tell_halt<R: Sink>(report: &mut R, halt: Halt) -> u8
+    ensures { Tells (halt_text halt) (halt_status halt) (R.seen report.old) result (R.seen report.new) }
 {
     match halt {
-        Halt::Memory => tell(report, b"memory\n", 4),
+        Halt::Because(cause) => tell_cause(report, cause),
         Halt::Outside(object) => tell(report, object.line().as_bytes(), 3),
-        Halt::Because(cause) => match cause.line(alloc) {
-            Ok(line) => tell(report, line.as_bytes(), cause.status()),
-            Err(_) => 4,
-        },
+        Halt::Memory => tell(report, b"memory\n", 4),
     }
+}
+
+/// Gives the report line of work that is done, and answers the status. Where there is no line, the report is not called.
+pub fn tell_outcome<R: Sink>(report: &mut R, outcome: &Outcome) -> u8
+    ensures { TellsLine (option_map string_bytes outcome.now.line) (finish_status outcome.now.finish)
+        (R.seen report.old) result (R.seen report.new) }
+{
+    match &outcome.line {
+        Some(line) => tell(report, line.as_bytes(), outcome.finish.status()),
+        None => outcome.finish.status(),
+    }
+}
+
+/// Gives the report line of words that are no command, and answers the status, 1. `word` is the position of the first word
+/// that is wrong, from 0, or their number where one is missing. It takes no memory of its own.
+pub fn tell_usage<R: Sink>(report: &mut R, word: u32) -> u8
+    ensures { TellsLine (Some (usage_text word)) 1 (R.seen report.old) result (R.seen report.new) }
+{
+    let mut line = [0u8; LINE_ROOM];
+    let start = write_usage(word, &mut line);
+    tell(report, &line[start..], 1)
 }

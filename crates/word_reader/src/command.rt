@@ -3,41 +3,71 @@ ghost use Rattle.std.specs.Prelude.{◌≡◌, map, string_bytes};
 ghost use Rattle.word_reader.specs.Words.{build_words, trace_words, run_words, merge_words, show_words, session_words, demo_words, command};
 ghost use Rattle.word_reader.specs.Reads.{Reads};
 
+use crate::limits::{DEMO_LIMIT, DIGIT_LIMIT};
 use crate::number::read_number;
 use crate::parts::{check_arguments, check_traces, name, steps};
 
 /// A command with its words.
 #[derive(Clone, Copy, Debug, PartialEq, Eq)]
 pub enum Command<'a> {
+    /// `build N E T..`: write a new executable.
     Build {
+        /// The name of the new executable, 1 to [`NAME_LIMIT`](crate::NAME_LIMIT) bytes.
         n: &'a str,
+        /// The name of the original, 1 to [`NAME_LIMIT`](crate::NAME_LIMIT) bytes.
         e: &'a str,
+        /// Names of traces, at most [`TRACE_LIMIT`](crate::TRACE_LIMIT), each of 1 to
+        /// [`NAME_LIMIT`](crate::NAME_LIMIT) bytes.
         traces: &'a [String],
     },
+    /// `trace T E WORD..`: run an original and store its edges.
     Trace {
+        /// The most steps, of 1 to [`DIGIT_LIMIT`](crate::DIGIT_LIMIT) digits, so below 10^18.
         steps: u64,
+        /// The name of the trace, 1 to [`NAME_LIMIT`](crate::NAME_LIMIT) bytes.
         t: &'a str,
+        /// The name of the original, 1 to [`NAME_LIMIT`](crate::NAME_LIMIT) bytes.
         e: &'a str,
+        /// The guest's words, at most [`ARGUMENT_LIMIT`](crate::ARGUMENT_LIMIT), which fit in
+        /// [`ARGUMENT_BYTES_LIMIT`](crate::ARGUMENT_BYTES_LIMIT).
         args: &'a [String],
     },
+    /// `run E WORD..`: run an executable.
     Run {
+        /// The most steps, of 1 to [`DIGIT_LIMIT`](crate::DIGIT_LIMIT) digits, so below 10^18.
         steps: u64,
+        /// The name of the executable, 1 to [`NAME_LIMIT`](crate::NAME_LIMIT) bytes.
         e: &'a str,
+        /// The guest's words, at most [`ARGUMENT_LIMIT`](crate::ARGUMENT_LIMIT), which fit in
+        /// [`ARGUMENT_BYTES_LIMIT`](crate::ARGUMENT_BYTES_LIMIT).
         args: &'a [String],
     },
+    /// `merge T E T..`: store the union of traces.
     Merge {
+        /// The name of the union, 1 to [`NAME_LIMIT`](crate::NAME_LIMIT) bytes.
         t: &'a str,
+        /// The name of the original, 1 to [`NAME_LIMIT`](crate::NAME_LIMIT) bytes.
         e: &'a str,
+        /// Names of traces, at most [`TRACE_LIMIT`](crate::TRACE_LIMIT), each of 1 to
+        /// [`NAME_LIMIT`](crate::NAME_LIMIT) bytes.
         traces: &'a [String],
     },
+    /// `show E T..`: list the blocks that traces have seen.
     Show {
+        /// The name of the original, 1 to [`NAME_LIMIT`](crate::NAME_LIMIT) bytes.
         e: &'a str,
+        /// Names of traces, at most [`TRACE_LIMIT`](crate::TRACE_LIMIT), each of 1 to
+        /// [`NAME_LIMIT`](crate::NAME_LIMIT) bytes.
         traces: &'a [String],
     },
+    /// `session E`: work on an original by the lines of the input.
     Session {
+        /// The name of the original, 1 to [`NAME_LIMIT`](crate::NAME_LIMIT) bytes.
         e: &'a str,
     },
+    /// `demo K`: show a recovery of a made program.
     Demo {
+        /// From 1 to [`DEMO_LIMIT`](crate::DEMO_LIMIT).
         count: u32,
     },
 }
@@ -110,10 +140,10 @@ fn demo_words(words: &[String]) -> Result<Command<'_>, Usage>
     let [word, rest @ ..] = words else {
         return Err(Usage { at: 1 });
     };
-    let Some(count) = read_number(word.as_str(), 18) else {
+    let Some(count) = read_number(word.as_str(), DIGIT_LIMIT) else {
         return Err(Usage { at: 1 });
     };
-    if count < 1 || count > 1000 {
+    if count < 1 || count > DEMO_LIMIT {
         return Err(Usage { at: 1 });
     }
     if !rest.is_empty() {
@@ -126,14 +156,16 @@ fn demo_words(words: &[String]) -> Result<Command<'_>, Usage>
 
 /// Reads the words after the program's name, from left to right. It takes no memory.
 ///
-/// Word 0 is one of `build`, `trace`, `run`, `merge`, `show`, `session`, `demo`. `--steps` and a number of 1 to 18
-/// digits may stand at words 1 and 2 of `trace` and `run`, whose default is 100000000 steps. A name has 1
-/// to 4096 bytes. At most 4096 trace words are fetched. A guest is given at most 256 words, and with `guest`
-/// before them and a zero byte behind each at most 65536 bytes. `session` has one further word, and so has
-/// `demo`, a number from 1 to 1000.
+/// Word 0 is one of `build`, `trace`, `run`, `merge`, `show`, `session`, `demo`. `--steps` and a number of 1 to
+/// [`DIGIT_LIMIT`](crate::DIGIT_LIMIT) digits may stand at words 1 and 2 of `trace` and `run`, whose default
+/// is [`DEFAULT_STEPS`](crate::DEFAULT_STEPS) steps. A name has 1 to [`NAME_LIMIT`](crate::NAME_LIMIT) bytes.
+/// At most [`TRACE_LIMIT`](crate::TRACE_LIMIT) trace words are fetched. A guest is given at most
+/// [`ARGUMENT_LIMIT`](crate::ARGUMENT_LIMIT) words, and with `guest` before them and a zero byte behind each at
+/// most [`ARGUMENT_BYTES_LIMIT`](crate::ARGUMENT_BYTES_LIMIT) bytes. `session` has one further word, and so has
+/// `demo`, a number from 1 to [`DEMO_LIMIT`](crate::DEMO_LIMIT).
 ///
-/// `Usage` carries the position of the first word that is wrong, from 0, or the number of words where
-/// one is missing.
+/// Errors: [`Usage`] exactly where the words are no command, with the position of the first word that is
+/// wrong, from 0, or the number of words where one is missing.
 #[tactic(auto, unfolding(crate::specs::Words::command))]
 pub fn read_words(words: &[String]) -> Result<Command<'_>, Usage>
     ensures { Reads result (command (map string_bytes words.now)) }

@@ -1,7 +1,9 @@
 //! Numbers in words.
 ghost use Rattle.std.specs.Prelude.{◌≡◌, ◌≤◌, ◌<◌, ◌^◌, length, true};
+ghost use Rattle.word_reader.specs.declared.limits.TheConstants.{DIGIT_LIMIT};
 ghost use Rattle.word_reader.specs.Numbers.{is_digit, are_digits, number_of_digits, number_in};
 
+/// Whether a byte is a decimal digit.
 fn is_a_digit(byte: u8) -> bool
     ensures { result ≡ is_digit byte }
 {
@@ -21,7 +23,7 @@ fn are_all_digits(bytes: &[u8]) -> bool
 
 fn digits_number(bytes: &[u8]) -> u64
     requires digits { are_digits bytes.now ≡ true }
-    requires few { length bytes.now ≤ 18 }
+    requires few { length bytes.now ≤ DIGIT_LIMIT }
     ensures { result ≡ number_of_digits bytes.now }
 {
     let mut number: u64 = 0;
@@ -31,9 +33,9 @@ fn digits_number(bytes: &[u8]) -> u64
     number
 }
 
-/// The number that a word writes in 1 to `most` decimal digits.
+/// The number that a word writes in 1 to `most` decimal digits, and `None` where it writes none.
 pub fn read_number(word: &str, most: usize) -> Option<u64>
-    requires { most ≤ 18 }
+    requires { most ≤ DIGIT_LIMIT }
     ensures { result ≡ number_in most word.now }
 {
     let bytes = word.as_bytes();

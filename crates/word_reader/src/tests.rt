@@ -1,5 +1,5 @@
 //! Words that are stated elsewhere, and one command of each kind.
-use crate::{Command, read_words};
+use crate::{Command, first_name, read_words};
 use std::test::Fail;
 
 /// The position of the first wrong word, or 9999 where the words are a command.
@@ -41,6 +41,7 @@ fn steps_are_read(rt: HostRuntime) -> Result<(), Fail> {
     for word in ["trace", "--steps", "17", "T", "E", "a"] {
         words.push(String::from_str(rt.alloc(), word)?)?;
     }
+    assert_eq!(rt; first_name(&words), 3);
     match read_words(&words) {
         Ok(Command::Trace { steps, t, e, args }) => {
             assert_eq!(rt; steps, 17);

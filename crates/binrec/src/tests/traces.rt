@@ -1,5 +1,5 @@
 //! Traces that are recorded and merged.
-use super::{HELLO, Left, left_of, left_with, with_code};
+use super::{Failing, HELLO, Left, NONE, left_failing, left_of, with_code};
 use std::alloc::{AllocError, Global};
 use std::test::Fail;
 
@@ -80,9 +80,9 @@ fn traces_a_jump_that_is_not_taken(rt: HostRuntime) -> Result<(), Fail> {
 
 #[test]
 fn names_what_failed_in_a_traced_run(rt: HostRuntime) -> Result<(), Fail> {
-    let left = left_with(&rt, &["trace", "N", "E"], &HELLO, &[], &[1], &[])?;
+    let left = left_failing(&rt, &["trace", "N", "E"], &HELLO, Failing { output: &[1], ..NONE })?;
     assert!(rt; left.gives_up(3, "outside output\n"));
-    let left = left_with(&rt, &["trace", "N", "E"], &HELLO, &[2], &[], &[])?;
+    let left = left_failing(&rt, &["trace", "N", "E"], &HELLO, Failing { shelf: &[2], ..NONE })?;
     assert_eq!(rt; left.status, 3);
     assert_eq!(rt; left.report.as_str(), "outside shelf\n");
     assert_eq!(rt; left.printed.as_slice(), b"hi\n".as_slice());

@@ -1,4 +1,4 @@
-use Rattle.ia_decode.proofs.Laws.{same_instruction}
+use Rattle.ia_decode.proofs.PrefixFree.{same_instruction}
 use Rattle.ia_decode.proofs.uniqueness.one_instruction.Goals as goal
 
 pub returns : goal.returns

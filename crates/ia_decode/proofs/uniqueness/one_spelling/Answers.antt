@@ -1,4 +1,4 @@
-use Rattle.ia_decode.proofs.Laws.{no_other}
+use Rattle.ia_decode.proofs.PrefixFree.{no_other}
 use Rattle.ia_decode.proofs.uniqueness.one_spelling.Goals as goal
 
 pub returns : goal.returns

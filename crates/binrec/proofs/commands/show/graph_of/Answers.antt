@@ -1,9 +1,0 @@
-use Rattle.std.proofs.Common.{ap, ◌∙◌}
-use Rattle.trace_file.specs.Edges.{union_of}
-use Rattle.binrec.proofs.Showing.{is_limited}
-use Rattle.binrec.proofs.commands.show.graph_of.Goals as goal
-
-pub returns-in-Ok-of-clause-graph : goal.returns-in-Ok-of-clause-graph
-returns-in-Ok-of-clause-graph c =
-    is_limited c.args.exe.now (union_of c.args.traces.items) c.in-Ok.edges c.in-Ok-of.graph c.one_graph.ensures c.requires.guest
-    (c.in-Ok.ensures.value ∙ ap union_of c.as_slice.ensures.value) c.in-Ok-of.ensures.graph c.in-Ok-of.ensures.few

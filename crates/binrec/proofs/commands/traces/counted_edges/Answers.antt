@@ -1,7 +1,0 @@
-use Rattle.std.proofs.Common.{refl}
-use Rattle.binrec.specs.Traces.{counted}
-use Rattle.top_plan.proofs.Checking.{blames_on, checks_on}
-use Rattle.binrec.proofs.commands.traces.counted_edges.Goals as goal
-
-pub returns-in_err-edges-clause-checks : goal.returns-in_err-edges-clause-checks
-returns-in_err-edges-clause-checks c = checks_on (λ es. es) _ c.from_residual.result _ (blames_on (counted c.args.before) _ _ (λ cause. refl) c.in_err-edges.ensures) c.from_residual.ensures.1

@@ -1,8 +1,0 @@
-use Rattle.trace_file.specs.Trace.{trace}
-use Rattle.top_plan.specs.Plan.{Fetches}
-use Rattle.binrec.specs.Traces.{counted, edges_of_word}
-use Rattle.top_plan.proofs.Passes.{goes_checked}
-use Rattle.binrec.proofs.commands.traces.fetch_trace.Goals as goal
-
-pub returns-clause-goes : goal.returns-clause-goes
-returns-clause-goes g c w = goes_checked (λ es. es) (Fetches c.args.name.now 16777216) (λ bytes. counted c.args.before (edges_of_word c.args.word (trace bytes c.args.digest.now))) c.in_ok-bytes.bytes.items _ _ c.counted_edges.result (c.in_ok-bytes.ensures.goes w) (rw c.as_slice.ensures.value at c.counted_edges.ensures.checks)

@@ -1,0 +1,32 @@
+//! The words of commands.
+use super::{HELLO, left_by};
+use std::test::Fail;
+
+#[test]
+fn reads_the_words(rt: HostRuntime) -> Result<(), Fail> {
+    let stated: [(&[&str], &str); 15] = [
+        (&[], "usage 0\n"),
+        (&["built", "N", "E"], "usage 0\n"),
+        (&["build"], "usage 1\n"),
+        (&["build", "", "E"], "usage 1\n"),
+        (&["build", ""], "usage 1\n"),
+        (&["build", "N"], "usage 2\n"),
+        (&["build", "N", ""], "usage 2\n"),
+        (&["build", "N", "E", "T"], "usage 3\n"),
+        (&["build", "N", "E", "T", ""], "usage 3\n"),
+        (&["show"], "usage 1\n"),
+        (&["session", "E", "F"], "usage 0\n"),
+        (&["demo", "0"], "usage 0\n"),
+        (&["run"], "usage 1\n"),
+        (&["run", "--steps", "x", "E"], "usage 2\n"),
+        (&["run", "--steps", "1"], "usage 3\n"),
+    ];
+    for (words, line) in stated {
+        assert!(rt;
+            left_by(&rt, words, &HELLO)?.gives_up(1, line),
+            "{}",
+            line
+        );
+    }
+    Ok(())
+}

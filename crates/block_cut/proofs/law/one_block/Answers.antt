@@ -1,5 +1,0 @@
-use Rattle.block_cut.proofs.Unique.{has_one_block}
-use Rattle.block_cut.proofs.law.one_block.Goals as goal
-
-pub returns : goal.returns
-returns c = has_one_block

@@ -1,0 +1,3 @@
+pub mod ImageStored
+pub mod Courses
+pub mod BuildMeant

@@ -1,0 +1,2 @@
+pub mod BuildPlan
+pub mod BuildMeaning

@@ -1,0 +1,3 @@
+pub mod TracesRun
+pub mod ReadMeant
+pub mod PartTurns

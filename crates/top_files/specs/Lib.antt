@@ -1,0 +1,4 @@
+pub mod OriginalPart
+pub mod TracesPart
+pub mod Answers
+pub mod ReadMeaning

@@ -1,0 +1,49 @@
+-- What a command has done that reads an original and its traces, by what the work behind them has done.
+use Rattle.std.specs.Prelude.{◌<◌, ◌≤◌, ◌+◌, ℕ, List, [], ◌∷◌, ◌++◌, length, Option, Some, None, Result, Ok, Err}
+use Rattle.br_outside.specs.Files.{Files}
+use Rattle.elf_read.specs.Elf.{elf, Refused}
+use Rattle.elf_read.specs.declared.exe.Exe.{Exe}
+use Rattle.elf_read.specs.declared.exe.Reach.TheVariants.{Original}
+use Rattle.sha2.specs.Sha256.{sha256}
+use Rattle.trace_file.specs.Edges.{Edge}
+use Rattle.trace_file.specs.Trace.{trace}
+use Rattle.trace_file.specs.Trace as trace_file
+use Rattle.top_plan.specs.World.{World}
+use Rattle.top_plan.specs.declared.ends.Limit.TheVariants as limits
+use Rattle.top_files.specs.Answers.{IsAbsent, IsRefused, IsPast, UnlessLong}
+
+-- By what a trace is: `next` is what its edges lead to, and `before` how many edges the traces before it have.
+abbrev pub ReadsEdges : Result (List Edge) trace_file.Refused → (List Edge → Type 0) → ℕ → ℕ → World → ℕ → World → Type 0
+ReadsEdges (Ok es) next word before s result t =
+    (before + length es ≤ 16777216 → next es) × (16777216 < before + length es → IsPast (limits.Edges 16777216) s result t)
+ReadsEdges (Err refused) next word before s result t = IsRefused word refused.number refused.place s result t
+
+-- by the content of a trace
+abbrev pub ReadsTrace : Option (List ℕ) → (List Edge → Type 0) → List ℕ → ℕ → ℕ → World → ℕ → World → Type 0
+ReadsTrace None next digest word before s result t = IsAbsent s result t
+ReadsTrace (Some content) next digest word before s result t =
+    UnlessLong 16777216 content (ReadsEdges (trace content digest) next word before s result t) s result t
+
+-- By the contents of the names that are left, whose traces have `before` edges together so far. With the edges of all it goes
+-- on as `last` says.
+abbrev pub ReadsTraces : (List (List Edge) → Type 0)
+    → List ℕ → List (List ℕ) → ℕ → ℕ → List (List Edge) → Files → World → ℕ → World → Type 0
+ReadsTraces last digest [] word before done files s result t = last done
+ReadsTraces last digest (name ∷ names) word before done files s result t =
+    ReadsTrace (files name)
+    (λ es. ReadsTraces last digest names (word + 1) (before + length es) (done ++ es ∷ []) files s result t)
+    digest word before s result t
+
+-- by what the file is as an original, whose word stands before those of its traces
+abbrev pub ReadsExe : (Exe → List ℕ → List (List Edge) → Type 0)
+    → List (List ℕ) → ℕ → List ℕ → Result Exe Refused → Files → World → ℕ → World → Type 0
+ReadsExe last names word content (Ok exe) files s result t =
+    ReadsTraces (last exe (sha256 content)) (sha256 content) names (word + 1) 0 [] files s result t
+ReadsExe last names word content (Err refused) files s result t = IsRefused word refused.number refused.place s result t
+
+-- by the content of the original
+abbrev pub ReadsContent : (Exe → List ℕ → List (List Edge) → Type 0)
+    → List (List ℕ) → ℕ → Option (List ℕ) → Files → World → ℕ → World → Type 0
+ReadsContent last names word None files s result t = IsAbsent s result t
+ReadsContent last names word (Some content) files s result t =
+    UnlessLong 16777216 content (ReadsExe last names word content (elf Original content) files s result t) s result t

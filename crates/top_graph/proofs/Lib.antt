@@ -1,0 +1,4 @@
+pub mod Quiet
+pub mod MergeMeant
+pub mod GraphRuns
+pub mod ShowMeant

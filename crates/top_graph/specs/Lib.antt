@@ -1,0 +1,4 @@
+pub mod MergePlan
+pub mod MergeMeaning
+pub mod ShowPlan
+pub mod ShowMeaning

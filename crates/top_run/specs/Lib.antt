@@ -1,0 +1,4 @@
+pub mod RunPlan
+pub mod TracePlan
+pub mod RunMeaning
+pub mod TraceMeaning

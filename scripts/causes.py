@@ -1,0 +1,273 @@
+"""What a report of BinRec means, in words: the cause and the cure of each usage, refusal, limit, fault and `outside`."""
+import os, re, resource, stat
+
+import executables
+
+USAGE = {
+    "build": "build N E T..                 N the file to write, E the executable, T its traces",
+    "run": "run [--steps K] E WORD..      E the executable, the WORDs its arguments",
+    "trace": "trace [--steps K] T E WORD..  T the trace to write, E the executable, the WORDs its arguments",
+    "merge": "merge T E T..                 the first T the trace to write, E the executable, the later T the traces to join",
+    "show": "show E T..                    E the executable, T its traces",
+}
+
+# A report line. It is the end of standard error, behind a guest's own bytes there.
+REPORT = ("exit [0-9]+ steps [0-9]+ undefined [0-9]+(?: edges [0-9]+)?|fault [a-z]+ [0-9a-f]{8} steps [0-9]+ undefined [0-9]+(?: edges [0-9]+)?|"
+          "budget steps [0-9]+ undefined [0-9]+(?: edges [0-9]+)?|usage [0-9]+|refused (?:word|line) [0-9]+ [0-9]+ [0-9]+|"
+          "outside [a-z]+|limit [a-z]+ [0-9]+|memory|built [0-9]+ [0-9]+ [0-9]+|merged [0-9]+|shown [0-9]+")
+
+# By number: the cause, and the cure.
+REFUSALS = {
+    1: ("the file has fewer than 52 bytes, so it is no executable", "it is empty or cut off: copy or link it again"),
+    2: ("the file is no ELF file", "give an executable, not its source, a script or an archive"),
+    3: ("the file is not 32-bit, little-endian ELF of version 1", "compile for i386, with -m32"),
+    4: ("the file is not of type EXEC", "link with -static -no-pie"),
+    5: ("the file is not for the i386", "compile for i386, with -m32"),
+    6: ("the headers have wrong sizes, or pass the end of the file", "the file is damaged or cut off: build or copy it again"),
+    7: ("the file is linked dynamically, or has storage for threads", "link with -static -nostdlib, and without thread-local variables"),
+    8: ("a segment is both writable and executable", "do not link with -N, and have no section that is \"awx\""),
+    9: ("a segment begins too low, ends above A0000000, or lies past the end of the file",
+        "link at 08048000 or above (a file that BinRec wrote is no original); if the addresses are right, the file is cut off"),
+    10: ("a segment begins before the end of the one before it", "mend the linker script: segments ascend, and none overlaps"),
+    11: ("the entry lies in no executable segment", "name the entry to the linker, with -e or as _start"),
+    12: ("a segment has more bytes in the file than in memory", "the file is damaged: build it again"),
+    13: ("there are too many segments, or too many bytes of memory", "make .bss smaller, and get memory by brk"),
+    21: ("the file is no trace of this version", "give a trace, or make it anew with `trace`"),
+    22: ("the trace is of another executable, or of another build of this one", "trace this very executable"),
+    23: ("the trace is cut off", "copy it again, or make it anew with `trace`"),
+    24: ("the pairs of the trace are out of order", "the trace is damaged: make it anew with `trace`"),
+    25: ("bytes follow the last pair of the trace", "the trace is damaged: make it anew with `trace`"),
+    26: ("the trace has more than 2000000 pairs", "keep the pairs in several traces"),
+}
+
+LIMITS = {
+    "file": "a file is larger than is read: an original or a trace at most 16777216 bytes, an executable for `run` at most 268435456",
+    "edges": "the traces have together more pairs than are joined: merge some of them first",
+    "union": "there are more different edges than a trace may have: trace shorter runs, or give fewer traces",
+    "blocks": "the traces lead to more than 65536 blocks: give fewer traces",
+    "code": "the recovered code would be too large: give fewer traces",
+}
+
+
+def positions(words):
+    """What each word of a command is, by its position: `stored`, `original`, `guest`, `trace` or `word`."""
+    command = words[0] if words else ""
+    skipped = 2 if command in ("run", "trace") and words[1:2] == ["--steps"] else 0
+    roles = {"build": ["stored", "original", "trace"], "run": ["guest", "word"], "trace": ["stored", "original", "word"],
+             "merge": ["stored", "original", "trace"], "show": ["original", "trace"]}.get(command, [])
+    found = {}
+    for at in range(1 + skipped, len(words)):
+        found[at] = roles[min(at - 1 - skipped, len(roles) - 1)] if roles else "word"
+    return found
+
+
+def names_of(words, *roles):
+    return [words[at] for at, role in positions(words).items() if role in roles]
+
+
+# ---- Usage ----
+
+def wrong_word(words, at):
+    """Why the word at a position is wrong."""
+    word = words[at]
+    length = len(os.fsencode(word))
+    if at == 0:
+        return f"there is no command `{word}`, or this program does not have it yet"
+    if not is_text(word):
+        return f"word {at} is not UTF-8"
+    if at == 2 and words[1] == "--steps":
+        return f"`{word}` is no number of steps: 1 to 18 decimal digits"
+    if positions(words)[at] == "word":
+        return f"word {at} is one too many: a guest has at most 256 words, and 65536 bytes with a zero byte each"
+    if length == 0 or length > 4096:
+        return f"word {at} has {length} bytes, and a name has 1 to 4096"
+    if words[0] == "build" and at == 3:
+        return "this program builds without traces only"
+    return f"word {at}, `{word}`, is wrong"
+
+
+def is_text(word):
+    try:
+        os.fsencode(word).decode()
+        return True
+    except UnicodeDecodeError:
+        return False
+
+
+def explain_usage(words, report):
+    at = int(report.split()[1])
+    cause = f"word {at} is missing" if at >= len(words) else wrong_word(words, at)
+    shown = [USAGE[words[0]]] if at and words[0] in USAGE else USAGE.values()
+    return [cause, *("usage: " + line for line in shown)]
+
+
+# ---- Refusals ----
+
+def finer(number, place, data):
+    """What the bytes tell further of a refusal."""
+    def half(at):
+        return int.from_bytes(data[at:at + 2], "little")
+
+    if number == 2 and data[:2] == b"#!":
+        return "it is a script"
+    if number in (1, 2) and data and all(9 <= b < 127 for b in data[:200]):
+        return "it is a text"
+    if number == 3 and data[4:5] == b"\2":
+        return "it is a 64-bit file"
+    if number == 4:
+        return {1: "it is an object file, which is to be linked first", 3: "it is a position-independent executable or a shared library"}.get(half(16))
+    if number == 7:
+        return {2: "it has a dynamic section", 3: "it has an interpreter", 7: "it has thread-local storage"}.get(half(place))
+    if number == 9 and executables.is_recompiled(data):
+        return "it is a file that BinRec wrote: give the original"
+    if number in (21, 22) and executables.is_elf(data):
+        return "it is an executable"
+    return None
+
+
+def explain_refusal(words, report):
+    _, _, at, number, place = report.split()
+    name = words[int(at)]
+    cause, cure = REFUSALS.get(int(number), ("it is refused", "docs/USING.md has the numbers"))
+    try:
+        more = finer(int(number), int(place), executables.read(name))
+    except OSError:
+        more = None
+    return [f"{name}: {cause}{': ' + more if more else ''} (number {number}, at {place})", f"cure: {cure}"]
+
+
+# ---- Files and streams that fail ----
+
+def store_trouble(name):
+    """Why a name cannot be stored under, or None."""
+    folder = os.path.dirname(name) or "."
+    if os.path.isdir(name):
+        return f"{name} is a folder"
+    if not os.path.isdir(folder):
+        return f"there is no folder {folder}"
+    try:
+        system = os.statvfs(folder)
+    except OSError as e:
+        return f"{folder}: {e.strerror}"
+    if system.f_flag & os.ST_RDONLY:
+        return f"{folder} lies on a file system that is read-only"
+    if system.f_bavail == 0 or system.f_files and system.f_favail == 0:
+        return f"the file system of {folder} is full (df {folder})"
+    if os.path.exists(name) and not os.access(name, os.W_OK):
+        return f"{name} may not be written by this user (ls -l {name})"
+    if not os.path.exists(name) and not os.access(folder, os.W_OK | os.X_OK):
+        return f"{folder} may not be written by this user (ls -ld {folder})"
+    if len(os.path.basename(name).encode(errors="replace")) > 255:
+        return f"the last part of {name[:40]}.. has more than 255 bytes"
+    most, _ = resource.getrlimit(resource.RLIMIT_FSIZE)
+    if most != resource.RLIM_INFINITY:
+        return f"a file may have at most {most} bytes here (ulimit -f), and {name} would have more"
+    return None
+
+
+def explain_shelf(words):
+    read = names_of(words, "original", "guest", "trace")
+    stored = names_of(words, "stored")
+    troubles = [executables.file_trouble(name) for name in read] + [store_trouble(name) for name in stored]
+    found = [trouble for trouble in troubles if trouble]
+    if found:
+        return found
+    return [f"a file failed: {', '.join(read + stored)}; none of them shows why now (a device, a disk that was full, a share that was away?)"]
+
+
+def descriptor_trouble(descriptor):
+    try:
+        mode = os.fstat(descriptor).st_mode
+    except OSError:
+        return "is closed"
+    if stat.S_ISDIR(mode):
+        return "is a folder"
+    if stat.S_ISFIFO(mode) and descriptor == 1:
+        return "is a pipe whose reader ended"
+    if stat.S_ISREG(mode) and descriptor == 1:
+        return "is a file that could not grow: the disk is full, or a limit (ulimit -f) is reached"
+    if stat.S_ISCHR(mode):
+        return "is a device that refused, as /dev/full does"
+    return "failed"
+
+
+def explain_outside(words, report):
+    what = report.split()[1]
+    if what == "shelf":
+        return explain_shelf(words)
+    if what == "input":
+        return ["standard input " + descriptor_trouble(0), "cure: give an input, as `< FILE` or `< /dev/null`"]
+    if what == "output":
+        return ["standard output " + descriptor_trouble(1)]
+    return ["standard error " + descriptor_trouble(2)]
+
+
+# ---- Faults ----
+
+def region_of(address, data):
+    """Where an address lies, as far as the file tells."""
+    if address < 4096:
+        return "near address 0: a null pointer"
+    for s in executables.segments(data):
+        if s.start <= address < s.start + s.size:
+            kept = "written, or executed," if s.flags & 3 == 0 else "executed" if s.flags & 2 else "written"
+            return f"in the segment at {s.start:08x}, which may not be {kept} or the access passes its end"
+    if 0xBFE00000 <= address < 0xBFF00000:
+        return "below the stack of 1 MiB: a recursion without end, or large local arrays"
+    if 0xBFF00000 <= address < 0xC0000000:
+        return "in the stack, which may not be executed, or the access passes its end"
+    return "in no segment of the file, not in the stack: past an array or the heap, or a pointer that was never set"
+
+
+def instruction_at(address, data):
+    """The instruction that stands at an address in the executable, with the name of its function."""
+    for s in executables.segments(data):
+        at = address - s.start
+        if s.flags & 1 and 0 <= at < len(s.data):
+            found = next(executables.linear(address, s.data[at:at + 16]), None)
+            if found:
+                return f"{found.spelling.hex()} {found.text}{executables.Symbols(data).at(address)}"
+    return "no code"
+
+
+def explain_fault(words, report):
+    parts = report.split()
+    kind, address = parts[1], int(parts[2], 16)
+    try:
+        data = executables.read(names_of(words, "guest", "original")[0])
+    except OSError:
+        return []
+    if kind == "access":
+        return [f"an access at {address:08x}, {region_of(address, data)}", "`br --where` with the same words says which instruction it was"]
+    stands = instruction_at(address, data)
+    if kind == "divide":
+        return [f"a division by 0, or with a quotient over 32 bits, at {address:08x}: {stands}"]
+    return [f"no instruction of the subset at {address:08x}: {stands}", "`fits` lists what is outside, and docs/USING.md what to write instead"]
+
+
+# ---- All of it ----
+
+def undefined(report):
+    found = re.search(r" undefined ([1-9]\d*)", report)
+    if not found:
+        return []
+    return [f"{found[1]} steps read a flag that an instruction left undefined: the run is not well defined, and nothing is promised for it"]
+
+
+def explain(words, status, report):
+    """The lines that explain a status and its report line."""
+    if status == 0:
+        return undefined(report)
+    explainers = [
+        (r"usage \d+", lambda: explain_usage(words, report)),
+        (r"refused word \d+ \d+ \d+", lambda: explain_refusal(words, report)),
+        (r"outside (shelf|input|output|report)", lambda: explain_outside(words, report)),
+        (r"memory", lambda: ["no memory: the process may have too little (ulimit -v), or the machine has"]),
+        (r"fault [a-z]+ [0-9a-f]{8}( .*)?", lambda: explain_fault(words, report) + undefined(report)),
+        (r"budget .*", lambda: ["the steps were used up: give more by --steps K (100000000 without it)"] + undefined(report)),
+        (r"limit [a-z]+ \d+", lambda: [LIMITS.get(report.split()[1], "a limit is passed")]),
+    ]
+    for pattern, lines in explainers:
+        if re.fullmatch(pattern, report):
+            return lines()
+    return []

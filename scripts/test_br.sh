@@ -1,0 +1,201 @@
+#!/usr/bin/env bash
+# usage: test_br.sh PROGRAM
+# `br`: no slip loses a file, each mistake is told with its cause and what to do, and words, streams and status pass through.
+# Prints each failure, and last 'N passed, M failed'.
+set -u
+[ $# = 1 ] || { sed -n 2,2p "$0" >&2; exit 2; }
+here=$(cd "$(dirname "$0")" && pwd)
+. "$here/lib.sh"
+enter_folder "$1"
+export BINREC=${tool[0]}
+br=$here/br
+user=()
+# Root may read and write everything, so the rows on permissions run as nobody.
+[ "$(id -u)" != 0 ] || user=(setpriv --reuid 65534 --regid 65534 --clear-groups)
+
+# NAME STATUS PATTERN WORD..: br ends with the status, and a line of its standard error matches.
+told() {
+    local name=$1 wanted=$2 pattern=$3
+    shift 3
+    "$br" "$@" > got.out 2> got.err < "${input:-/dev/null}"
+    judge "$name" "$wanted" "$pattern" $?
+}
+judge() {
+    if [ "$4" != "$2" ]; then
+        fail "$1: status $4, wanted $2: $(cat got.err)"
+    elif ! grep -Eq -- "$3" got.err; then
+        fail "$1: no line '$3': $(cat got.err)"
+    else
+        pass
+    fi
+}
+
+# As `told` with status 8, over words that would replace the file KEPT: it stays.
+kept() {
+    local name=$1 file=$2 pattern=$3 before
+    shift 3
+    before=$(sha256sum < "$file")
+    told "$name" 8 "$pattern" "$@"
+    if [ "$(sha256sum < "$file")" = "$before" ]; then pass; else fail "$name: $file was changed"; fi
+}
+
+# An executable that writes hi, and one that loops.
+hi="b804000000 bb01000000 b976800408 ba03000000 cd80 b801000000 bb00000000 cd80 68690a"
+executable E "$hi"
+executable other "$hi 90"
+executable turn ebfe
+"$BINREC" trace T E > /dev/null 2>&1
+"$BINREC" trace T2 E > /dev/null 2>&1
+"$BINREC" trace alien other > /dev/null 2>&1
+printf 'my notes' > notes
+
+loss_rows() {
+    kept 'trace over the executable' E 'E is the executable itself' trace E E
+    kept 'merge over the executable' E 'E is the executable itself' merge E E T
+    kept 'build over the executable' E 'E is the executable itself' build E E
+    ln -s E link
+    ln E hard
+    kept 'trace over a link to the executable' E 'link is the executable itself' trace link E
+    kept 'trace over another name of the executable' E 'hard is the executable itself' trace hard E
+    kept 'trace over another file' notes 'notes is no trace' trace notes E
+    kept 'trace with a budget over another file' notes 'notes is no trace' trace --steps 9 notes E
+    kept 'merge over another file' notes 'notes is no trace' merge notes E T
+    kept 'build over another file' notes 'notes is no file that BinRec wrote' build notes E
+    kept 'build over another executable' other 'other is no file that BinRec wrote' build other E
+    kept 'build over a trace' T 'T is no file that BinRec wrote' build T E
+    kept 'trace over a trace of another executable' alien 'alien is a trace of another executable' trace alien E
+    kept 'merge that drops the trace it stores under' T 'T is a trace whose pairs would not be kept' merge T E T2
+    kept 'merge of no traces over a trace' T 'T is a trace whose pairs would not be kept' merge T E
+    told 'merge of no traces' 8 'merge of no traces would store an empty trace' merge new E
+    if [ ! -e new ]; then pass; else fail 'merge of no traces stored a file'; fi
+}
+
+leave_rows() {
+    told 'trace over a trace of it' 0 '^exit 0 steps 8 undefined 0 edges 1$' trace T E
+    told 'merge that keeps what it stores under' 0 '^merged 1$' merge T E T T2
+    : > free
+    told 'over an empty file' 0 '^built 0 5 ' build free E
+    told 'over a file that BinRec wrote' 0 '^built 0 5 ' build free E
+    told 'over a device' 0 '^built 0 5 ' build /dev/null E
+    told 'merge of no traces, forced' 0 '^merged 0$' --force merge new E
+    cp notes replaced
+    told 'over another file, forced' 0 '^built 0 5 ' --force build replaced E
+}
+
+mistake_rows() {
+    told 'no words' 1 'word 0 is missing'
+    told 'an unknown command' 1 'there is no command `frob`' frob E
+    told 'a missing word' 1 'word 2 is missing' trace T
+    told 'an empty name' 1 'word 1 has 0 bytes' show ''
+    told 'steps that are no number' 1 '`x` is no number of steps' run --steps x E
+    told 'too many words' 1 'at most 256 words' run E $(seq 257)
+    told 'an absent file' 3 'there is no file absent' show absent
+    told 'a link to nothing' 3 'dangling is a link to a file that is not there' show dangling
+    told 'a folder' 3 '\. is a folder' show .
+    told 'a folder to store under' 3 '\. is a folder' build . E
+    told 'a folder that is not there' 3 'there is no folder nowhere' build nowhere/N E
+    told 'a 64-bit file' 2 'it is a 64-bit file' show /bin/sh
+    echo 'a text that is longer than the fifty-two bytes of a header' > text
+    told 'a text' 2 'it is a text' show text
+    { head -c 16 E; printf '\3'; tail -c +18 E; } > pie
+    told 'a position-independent executable' 2 'it is a position-independent executable' show pie
+    { head -c 52 E; printf '\2'; tail -c +54 E; } > dynamic
+    told 'a dynamic section' 2 'it has a dynamic section' show dynamic
+    told 'a trace of another executable' 2 'the trace is of another executable' show E alien
+    head -c 50 T > cut
+    told 'a trace that is cut off' 2 'the trace is cut off' show E cut
+    told 'an executable as a trace' 2 'the file is no trace of this version: it is an executable' show E E
+    truncate -s 16777217 long
+    told 'a file over the limit' 7 'at most 16777216 bytes' show long
+    told 'steps that are used up' 6 'give more by --steps' run --steps 5 turn
+    told 'flags that are undefined' 0 '1 steps read a flag' run undefined
+    input=/
+    told 'an input that is a folder' 3 'standard input is a folder' run reading
+    input=
+    "$br" run reading > /dev/null 2> got.err <&-
+    judge 'an input that is closed' 3 'standard input is closed' $?
+    "$br" run E 2> got.err >&-
+    judge 'an output that is closed' 3 'standard output is closed' $?
+    { "$br" run E 2> got.err; echo $? > status; } | true
+    judge 'an output without a reader' 3 'standard output is a pipe whose reader ended' "$(cat status)"
+    "$br" run E > /dev/null 2> /dev/full
+    [ $? = 3 ] && pass || fail 'a report that cannot be written'
+    "$br" run E > /dev/null 2>&-
+    [ $? = 3 ] && pass || fail 'a report that is closed'
+    (ulimit -f 1 && "$br" build grown E 2> got.err)
+    judge 'a limit on files' 3 'a file may have at most' $?
+}
+
+permission_rows() {
+    local name
+    chmod 755 .
+    cp E secret && chmod 600 secret
+    mkdir closed && chmod 755 closed
+    mkdir open && chmod 777 open && cp E open/kept && chmod 644 open/kept
+    if [ "$(id -u)" = 0 ] && ! "${user[@]}" "$br" show E > /dev/null 2>&1; then
+        skip 'permissions: nobody cannot run br here'
+        return
+    fi
+    for name in 'show secret:may not be read' 'build closed/N E:closed may not be written'; do
+        "${user[@]}" "$br" ${name%:*} > /dev/null 2> got.err
+        judge "${name%:*} without permission" 3 "${name#*:}" $?
+    done
+}
+
+fault_rows() {
+    told 'an access near 0' 5 'near address 0: a null pointer' run null
+    told 'a write to code' 5 'in the segment at 08048000, which may not be written' run code
+    told 'a division by zero' 5 'a division by 0.* at 08048056: f7f1 div' run divide
+    told 'an instruction outside' 5 'no instruction of the subset at 08048054: 0fa2 cpuid' run outside
+    if [ "$native_kind" = processor ] && command -v gdb > /dev/null; then
+        told 'where it faulted' 5 '^br: step 2 at 08048059: a300000000 mov' --where run null
+        if [ ! -s got.out ]; then pass; else fail 'where it faulted: an output'; fi
+    else
+        skip 'where it faulted: no gdb, or no 32-bit executables here'
+    fi
+}
+
+# What goes through: words as they are, a prompt before its answer, the bytes before the report.
+stream_rows() {
+    local said
+    executable words '8b5c2404 8b5c2408 0fb61b b801000000 cd80'
+    told 'a word' 0 '^exit 65 steps 5' run words 'A *'
+    # Writes "? " and LF, reads 1 byte, and exits with it.
+    executable dialogue 'b804000000 bb01000000 b994800408 ba02000000 cd80
+        b803000000 bb00000000 8d4c24f0 ba01000000 cd80 0fb65c24f0 b801000000 cd80 3f20'
+    mkfifo question answer
+    "$br" run dialogue > question 2> got.err < answer &
+    exec 5> answer 6< question
+    IFS= read -r -t 20 -n 2 said <&6
+    if [ "$said" = '? ' ]; then pass; else fail "the prompt comes before its answer: '$said'"; fi
+    printf 'A' >&5
+    exec 5>&- 6<&-
+    wait $!
+    judge 'a dialogue' 0 '^exit 65 steps' $?
+    # Writes "exit 1" to descriptor 2 without a line feed, and exits: the report stands behind it.
+    executable mixed 'b804000000 bb02000000 b976800408 ba06000000 cd80 b801000000 bb00000000 cd80 657869742031'
+    told 'a text before the report' 0 '^exit 1exit 0 steps 8 undefined 0$' run mixed
+    told 'help' 0 '' --help
+    told 'the version' 0 '' --version
+    if grep -q '^program .*SHA-256 [0-9a-f]\{64\}$' got.out; then pass; else fail "the version: $(cat got.out)"; fi
+    BINREC=/nowhere "$br" --version > got.out 2> got.err
+    judge 'no program' 127 'no program: build it' $?
+}
+
+ln -s nothing dangling
+executable undefined 'f7e0 7400 b801000000 bb00000000 cd80'
+executable reading 'b803000000 bb00000000 8d4c24f0 ba01000000 cd80 b801000000 cd80'
+executable null 'b801000000 a300000000'
+executable code 'a300800408'
+executable divide '31c9 f7f1'
+executable outside '0fa2'
+executable zero 'b801000000 bb00000000 cd80'
+chmod +x zero
+find_native ./zero
+loss_rows
+leave_rows
+mistake_rows
+permission_rows
+fault_rows
+stream_rows
+finish
