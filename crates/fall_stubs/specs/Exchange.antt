@@ -43,22 +43,25 @@ add_to_al = Alu 0 B8 (rm.Reg 0) (src.Imm 0x7F)
 
 -- ---- the sequences, by the virtual registers that live in registers
 
--- from their slots, and to their slots
-abbrev pub home_items : List RegisterHome → List Item
-home_items homes = map (λ h. item.Inst (reg_from_slot h.register h.slot)) homes
+-- to their slots, and from their slots
+abbrev pub spill_code : List RegisterHome → List Inst
+spill_code homes = map (λ h. slot_from_reg h.slot h.register) homes
 
-abbrev pub spill_items : List RegisterHome → List Item
-spill_items homes = map (λ h. item.Inst (slot_from_reg h.slot h.register)) homes
+abbrev pub home_code : List RegisterHome → List Inst
+home_code homes = map (λ h. reg_from_slot h.register h.slot) homes
 
--- registers, then CF, PF, ZF, SF and OF
-abbrev pub capture_code : List Inst
-capture_code =
+-- registers, then CF, PF, ZF, SF and OF, then the homes
+abbrev pub capture_code : List RegisterHome → List Inst
+capture_code homes =
     slot_from_reg 0 0 ∷ slot_from_reg 1 1 ∷ slot_from_reg 2 2 ∷ slot_from_reg 3 3
     ∷ slot_from_reg 4 4 ∷ slot_from_reg 5 5 ∷ slot_from_reg 6 6 ∷ slot_from_reg 7 7
-    ∷ flag_to_slot 8 2 ∷ flag_to_slot 9 10 ∷ flag_to_slot 10 4 ∷ flag_to_slot 11 8 ∷ flag_to_slot 12 0 ∷ []
+    ∷ flag_to_slot 8 2 ∷ flag_to_slot 9 10 ∷ flag_to_slot 10 4 ∷ flag_to_slot 11 8 ∷ flag_to_slot 12 0 ∷ home_code homes
 
 abbrev pub capture_items : List RegisterHome → List Item
-capture_items homes = map item.Inst capture_code ++ home_items homes
+capture_items homes = map item.Inst (capture_code homes)
+
+abbrev pub spill_items : List RegisterHome → List Item
+spill_items homes = map item.Inst (spill_code homes)
 
 -- CLD, and a test of slot 13
 abbrev pub restore_start : List Inst
@@ -78,12 +81,12 @@ abbrev pub restore_items : ℕ → List Item
 restore_items label = map item.Inst restore_start
     ++ (item.Jump (Some 4) (dests.Label label) ∷ item.Inst Std ∷ item.Label label ∷ map item.Inst restore_rest)
 
--- a native instruction between the two
+-- a native instruction between the two: what stands before its own bytes, and behind them
 abbrev pub opening_items : List RegisterHome → ℕ → List Item
 opening_items homes label = spill_items homes ++ restore_items label
 
 abbrev pub closing_items : List RegisterHome → Dest → List Item
-closing_items homes next = capture_items homes ++ item.Jump None next ∷ []
+closing_items homes next = capture_items homes ++ (item.Jump None next ∷ [])
 
 abbrev pub island_items : List RegisterHome → List ℕ → ℕ → Dest → List Item
 island_items homes bytes label next = opening_items homes label ++ (map item.Byte bytes ++ closing_items homes next)

@@ -1,7 +1,8 @@
 //! The sequences of the exchange.
-ghost use Rattle.std.specs.Prelude.{◌≡◌, ◌++◌, ◌<◌, ◌≤◌, ℕ, OnOk, OnErr, length, take};
+ghost use Rattle.std.specs.Prelude.{◌≡◌, ◌++◌, ◌<◌, ◌≤◌, ℕ, OnOk, OnErr, length, take, map};
+ghost use Rattle.ia_encode.specs.declared.item.Item.TheVariants as item;
 ghost use Rattle.par_moves.specs.Homes.{register_homes};
-ghost use Rattle.fall_stubs.specs.Exchange.{home_items, capture_items, spill_items, restore_items, island_items, Grew};
+ghost use Rattle.fall_stubs.specs.Exchange.{home_code, capture_items, spill_items, restore_items, island_items, Grew};
 
 use crate::insts::{gather, load, overflow, shift, store, store_flag, test};
 use ia_encode::{Dest, Item, Piece};
@@ -11,8 +12,8 @@ use std::alloc::AllocError;
 
 /// Appends MOVs of the virtual registers that live in registers, from their slots.
 fn load_homes(p: &mut Piece) -> Result<(), AllocError>
-    ensures ok { OnOk result (p.new ≡ p.old ++ home_items register_homes) }
-    ensures err { OnErr result (Grew p.old p.new (home_items register_homes)) }
+    ensures ok { OnOk result (p.new ≡ p.old ++ map item.Inst (home_code register_homes)) }
+    ensures err { OnErr result (Grew p.old p.new (map item.Inst (home_code register_homes))) }
 {
     for home in register_homes() {
         p.put(&load(home.register, home.slot))?;

@@ -1,0 +1,15 @@
+pub mod Ops
+pub mod Memory
+pub mod Follows
+pub mod Runs
+pub mod Exchange
+pub mod Keeps
+pub mod Gives
+pub mod Means
+pub mod Hold
+pub mod Own
+pub mod Start
+pub mod Moves
+pub mod Valid
+pub mod Tests
+pub mod Slots

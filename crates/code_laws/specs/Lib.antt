@@ -1,0 +1,6 @@
+pub mod Words
+pub mod Seen
+pub mod Exchange
+pub mod Laws
+pub mod Placed
+pub mod Valid
