@@ -50,12 +50,19 @@ spill_code homes = map (λ h. slot_from_reg h.slot h.register) homes
 abbrev pub home_code : List RegisterHome → List Inst
 home_code homes = map (λ h. reg_from_slot h.register h.slot) homes
 
--- registers, then CF, PF, ZF, SF and OF, then the homes
+-- registers to their slots, and CF, PF, ZF, SF and OF
+abbrev pub low_stores : List Inst
+low_stores = slot_from_reg 0 0 ∷ slot_from_reg 1 1 ∷ slot_from_reg 2 2 ∷ slot_from_reg 3 3 ∷ []
+
+abbrev pub high_stores : List Inst
+high_stores = slot_from_reg 4 4 ∷ slot_from_reg 5 5 ∷ slot_from_reg 6 6 ∷ slot_from_reg 7 7 ∷ []
+
+abbrev pub flag_stores : List Inst
+flag_stores = flag_to_slot 8 2 ∷ flag_to_slot 9 10 ∷ flag_to_slot 10 4 ∷ flag_to_slot 11 8 ∷ flag_to_slot 12 0 ∷ []
+
+-- CAPTURE: those, and then the homes
 abbrev pub capture_code : List RegisterHome → List Inst
-capture_code homes =
-    slot_from_reg 0 0 ∷ slot_from_reg 1 1 ∷ slot_from_reg 2 2 ∷ slot_from_reg 3 3
-    ∷ slot_from_reg 4 4 ∷ slot_from_reg 5 5 ∷ slot_from_reg 6 6 ∷ slot_from_reg 7 7
-    ∷ flag_to_slot 8 2 ∷ flag_to_slot 9 10 ∷ flag_to_slot 10 4 ∷ flag_to_slot 11 8 ∷ flag_to_slot 12 0 ∷ home_code homes
+capture_code homes = low_stores ++ (high_stores ++ (flag_stores ++ home_code homes))
 
 abbrev pub capture_items : List RegisterHome → List Item
 capture_items homes = map item.Inst (capture_code homes)
@@ -63,23 +70,38 @@ capture_items homes = map item.Inst (capture_code homes)
 abbrev pub spill_items : List RegisterHome → List Item
 spill_items homes = map item.Inst (spill_code homes)
 
--- CLD, and a test of slot 13
+-- DF from slot 13: CLD, and STD where the slot is not 0
 abbrev pub restore_start : List Inst
 restore_start = Cld ∷ reg_from_slot 0 13 ∷ test_eax ∷ []
 
--- a slot's bit joins those in eax
-abbrev pub joined : ℕ → ℕ → List Inst → List Inst
-joined slot n is = reg_from_slot 1 slot ∷ shift_left 1 n ∷ or_reg ∷ is
+abbrev pub direction_items : ℕ → List Item
+direction_items label =
+    map item.Inst restore_start ++ (item.Jump (Some 4) (dests.Label label) ∷ item.Inst Std ∷ item.Label label ∷ [])
 
--- the flags and the registers
+-- a slot's bit joins those in eax
+abbrev pub joined : ℕ → ℕ → List Inst
+joined slot n = reg_from_slot 1 slot ∷ shift_left 1 n ∷ or_reg ∷ []
+
+-- CF, PF, ZF and SF where SAHF takes them, in al
+abbrev pub joined_flags : List Inst
+joined_flags = reg_from_slot 0 8 ∷ (joined 9 2 ++ (joined 10 6 ++ joined 11 7))
+
+-- they go to ah and OF to al; the sum sets OF, and SAHF the others
+abbrev pub restore_flags : List Inst
+restore_flags = shift_left 0 8 ∷ reg_from_slot 1 12 ∷ or_reg ∷ add_to_al ∷ Sahf ∷ []
+
+abbrev pub low_loads : List Inst
+low_loads = reg_from_slot 1 1 ∷ reg_from_slot 2 2 ∷ reg_from_slot 3 3 ∷ reg_from_slot 4 4 ∷ []
+
+abbrev pub high_loads : List Inst
+high_loads = reg_from_slot 5 5 ∷ reg_from_slot 6 6 ∷ reg_from_slot 7 7 ∷ reg_from_slot 0 0 ∷ []
+
+-- RESTORE
 abbrev pub restore_rest : List Inst
-restore_rest = reg_from_slot 0 8 ∷ joined 9 2 (joined 10 6 (joined 11 7 (shift_left 0 8 ∷ reg_from_slot 1 12 ∷ or_reg ∷ add_to_al ∷ Sahf
-    ∷ reg_from_slot 1 1 ∷ reg_from_slot 2 2 ∷ reg_from_slot 3 3 ∷ reg_from_slot 4 4
-    ∷ reg_from_slot 5 5 ∷ reg_from_slot 6 6 ∷ reg_from_slot 7 7 ∷ reg_from_slot 0 0 ∷ [])))
+restore_rest = joined_flags ++ (restore_flags ++ (low_loads ++ high_loads))
 
 abbrev pub restore_items : ℕ → List Item
-restore_items label = map item.Inst restore_start
-    ++ (item.Jump (Some 4) (dests.Label label) ∷ item.Inst Std ∷ item.Label label ∷ map item.Inst restore_rest)
+restore_items label = direction_items label ++ map item.Inst restore_rest
 
 -- a native instruction between the two: what stands before its own bytes, and behind them
 abbrev pub opening_items : List RegisterHome → ℕ → List Item

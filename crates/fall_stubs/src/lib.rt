@@ -2,6 +2,7 @@
 #![tactic(auto)]
 
 mod exchange;
+mod homes;
 mod insts;
 
 pub use exchange::{capture, island, restore, spill};
