@@ -247,9 +247,11 @@ def explain_fault(words, report):
 
 # ---- All of it ----
 
-def undefined(report):
+def undefined(words, report):
+    """Of a file that BinRec wrote no word: its recovered code keeps flags that are undefined, and uses none."""
     found = re.search(r" undefined ([1-9]\d*)", report)
-    if not found:
+    name = (names_of(words, "guest", "original") or [""])[0]
+    if not found or os.path.isfile(name) and executables.is_recompiled(executables.read(name)):
         return []
     return [f"{found[1]} steps read a flag that an instruction left undefined: the run is not well defined, and nothing is promised for it"]
 
@@ -257,14 +259,14 @@ def undefined(report):
 def explain(words, status, report):
     """The lines that explain a status and its report line."""
     if status == 0:
-        return undefined(report)
+        return undefined(words, report)
     explainers = [
         (r"usage \d+", lambda: explain_usage(words, report)),
         (r"refused word \d+ \d+ \d+", lambda: explain_refusal(words, report)),
         (r"outside (shelf|input|output|report)", lambda: explain_outside(words, report)),
         (r"memory", lambda: ["no memory: the process may have too little (ulimit -v), or the machine has"]),
-        (r"fault [a-z]+ [0-9a-f]{8}( .*)?", lambda: explain_fault(words, report) + undefined(report)),
-        (r"budget .*", lambda: ["the steps were used up: give more by --steps K (100000000 without it)"] + undefined(report)),
+        (r"fault [a-z]+ [0-9a-f]{8}( .*)?", lambda: explain_fault(words, report) + undefined(words, report)),
+        (r"budget .*", lambda: ["the steps were used up: give more by --steps K (100000000 without it)"] + undefined(words, report)),
         (r"limit [a-z]+ \d+", lambda: [LIMITS.get(report.split()[1], "a limit is passed")]),
     ]
     for pattern, lines in explainers:

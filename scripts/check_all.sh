@@ -1,14 +1,13 @@
 #!/usr/bin/env bash
 # usage: check_all.sh [PROGRAM]
 # The project's own checks of the built program, which `.ci/run` makes after the gate. Without a PROGRAM they take the two that
-# `rt ci` leaves: by LLVM, and by Rattle's own compiler. Each check that a tool or a folder is missing for is skipped, and says so.
-# Prints a line for each check, and ends with 1 where one failed.
+# `rt ci` leaves: by LLVM, and by Rattle's own compiler. What the program must have stands in built.sh. Only a tool or a folder that this machine
+# does not have lets a check be skipped, and the last line counts those. Prints a line for each check, and ends with 1 where one failed.
 set -u
 cd "$(dirname "$0")/.." || exit 2
-# What the whole program of today has, in the words of ../shared/check/compare.py: raise these when more is built.
-built_stage=graph
-built_commands=build0,run,trace,merge,show
+. scripts/built.sh
 bad=0
+skipped=0
 started=$SECONDS
 
 # NAME COMMAND..: runs it with at most five minutes, and says how it ended.
@@ -23,19 +22,19 @@ check() {
         bad=1
     fi
 }
-skip() { echo "== $1: skipped: $2"; }
+skip() {
+    echo "== $1: skipped: $2"
+    skipped=$((skipped + 1))
+}
 
-# Whether the program knows a command: without words it refuses an unknown one at position 0.
-knows() { [ "$("$program" "$1" 2>&1 < /dev/null)" != 'usage 0' ]; }
-
-# The stage and commands to compare, lower ones where the program has no `run`.
-choose_stage() {
-    stage=$built_stage
-    commands=$built_commands
-    if ! knows run; then
-        stage=first-path
-        commands=build0
-    fi
+# The tools of a check, and then the check: skipped where one is missing.
+check_with() {
+    local tools=$1 name=$2 tool
+    for tool in $tools; do
+        command -v "$tool" > /dev/null || { skip "$name" "no $tool"; return; }
+    done
+    shift
+    check "$@"
 }
 
 # The comparison with the reference program, from a copy of both, since the reference is built beside its sources.
@@ -45,36 +44,28 @@ compare() {
     if [ ! -e ../shared/check/compare.py ] || [ ! -d ../shared/oracle ]; then
         skip 'comparison with the reference program' 'no ../shared/check and ../shared/oracle'
         return
-    elif ! command -v cargo > /dev/null; then
-        skip 'comparison with the reference program' 'no cargo'
-        return
     fi
     mkdir -p -m 700 "$copy" && cp -ru --preserve=timestamps ../shared/check ../shared/oracle "$copy" && chmod -R u+w "$copy"
-    choose_stage
     today=$(date +%Y%m%d)
     for seed in 1 "$today"; do
-        check "comparison with the reference program, stage $stage, seed $seed" \
-            python3 "$copy/check/compare.py" --tool "$program" --stage "$stage" --commands "$commands" --count 60 --seed "$seed"
+        check_with 'cargo python3' "comparison with the reference program, stage $built_stage, seed $seed" \
+            python3 "$copy/check/compare.py" --tool "$program" --stage "$built_stage" --commands "$built_commands" --count 60 --seed "$seed"
     done
 }
 
-spellings() {
-    if ! command -v objdump > /dev/null; then
-        skip 'spellings' 'no objdump'
-    elif knows show; then
-        check 'spellings, by show' python3 scripts/check_spellings.py --seed "$(date +%Y%m%d)" python3 scripts/decode_by_show.py "$program"
-    elif knows run; then
-        check 'spellings, a sample by run' python3 scripts/check_spellings.py --sample 600 python3 scripts/decode_by_run.py "$program"
-    else
-        skip 'spellings' 'the program has neither show nor run yet'
-    fi
+# The scripts for users, and the walk-through.
+tools_of_users() {
+    check_with python3 'the front br' scripts/test_br.sh "$program"
+    check_with 'python3 objdump' 'fits' scripts/test_fits.sh "$program"
+    check_with 'python3 objdump gcc nm' 'cc32' scripts/test_cc32.sh "$program"
+    check_with 'python3 objdump' 'coverage and graph' scripts/test_coverage.sh "$program"
+    check 'stores' scripts/test_stores.sh "$program"
+    check_with 'python3 objdump gcc nm' 'a first use' examples/first_use.sh "$program"
+    check_with python3 'the docs' scripts/test_docs.sh
 }
 
 if [ $# -gt 0 ]; then
     programs=("$(realpath "$1")")
-elif ! grep -q '^binrec\b' crates.txt; then
-    skip 'all checks of the program' 'crates.txt has no crate binrec yet'
-    exit 0
 else
     programs=("$PWD/crates/binrec/out/binrec" "$PWD/crates/binrec/out/binrec.by-rattle")
 fi
@@ -90,8 +81,10 @@ done
 program=${programs[0]}
 if [ -x "$program" ]; then
     check 'real programs' scripts/check_programs.sh "$program"
-    spellings
+    check_with 'python3 objdump' 'spellings, by show' \
+        python3 scripts/check_spellings.py --seed "$(date +%Y%m%d)" python3 scripts/decode_by_show.py "$program"
+    tools_of_users
     compare
 fi
-echo "== the project's own checks: $([ $bad = 0 ] && echo passed || echo FAILED), $((SECONDS - started)) s"
+echo "== the project's own checks: $([ $bad = 0 ] && echo passed || echo FAILED), $skipped skipped, $((SECONDS - started)) s"
 exit $bad

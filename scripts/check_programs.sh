@@ -4,12 +4,12 @@
 #   `run` of the executable shows the stored output, standard error and status in the steps that a processor took, and reads
 #   no undefined flag;
 #   `build` without traces, then `run` of what it wrote shows the same in one step more, the jump to the original's entry;
-#   where the commands are there, `trace` shows the same and stores a file, `merge` joins the traces of all cases of a program to the set of their pairs,
-#   `build` with the traces and with the joined one writes the same file, and `run` of that file shows the same,
+#   `trace` shows the same and stores a file, `merge` joins the traces of all cases of a program to the set of their pairs,
+#   where it is built, `build` with the traces and with the joined one writes the same file, and `run` of that file shows the same,
 #   also where the segments of the original in it may not be executed: every path of a traced run is recovered code;
 #   and every case over the file built with the trace of one case alone, most of whose paths leave for the original;
 #   where the machine runs 32-bit executables, each of these files shows the same on the processor.
-# A case's status is a number, or `fault KIND`. Prints each failure, and last 'N passed, M failed'; status 1 on a failure.
+# What is built stands in built.sh: a command of it that is missing fails. A case's status is a number, or `fault KIND`. Prints each failure, and last 'N passed, M failed'; status 1 on a failure.
 set -u
 [ $# -gt 0 ] || { sed -n 2,3p "$0" >&2; exit 2; }
 here=$(cd "$(dirname "$0")" && pwd)
@@ -33,6 +33,11 @@ load_case() {
     [ ! -e "$at/guest-only" ] || native_too=none
 }
 
+# The report of a guest at the end of a file, whose own last byte before it may be no line feed; the last line where there is none.
+report_of() {
+    tail -n 1 "$1" | grep -Eo '(exit [0-9]+|fault [a-z]+ [0-9a-f]{8}|budget) steps [0-9]+ undefined [0-9]+( edges [0-9]+)?$' || tail -n 1 "$1"
+}
+
 # The exit status of `run` and `trace` for the wanted status: 5 for a fault, else 0.
 command_status() { case $wanted in fault*) echo 5 ;; *) echo 0 ;; esac; }
 
@@ -45,7 +50,7 @@ check_guest() {
     [ "$has_run" = 1 ] || return 0
     timeout 300 "${tool[@]}" "$@" "${words[@]}" < "$input" > got.out 2> got.err
     status=$?
-    last=$(tail -n 1 got.err)
+    last=$(report_of got.err)
     case $wanted in
         fault*) line="^$wanted [0-9a-f]{8} steps $ending\$" ;;
         *) line="^exit $wanted steps $ending\$" ;;
@@ -164,23 +169,12 @@ run_cases() {
 
 find_native "$programs/bin/hash"
 [ "$native_kind" != none ] || skip 'on the processor: this machine runs no 32-bit executable and has no qemu-i386'
-has_run=0
-if ! knows run; then
-    skip 'runs by the program: it has no command run yet'
-elif ! knows_all_instructions; then
-    skip 'runs by the program: it does not know the whole instruction table yet'
-else
-    has_run=1
-fi
-has_merge=0
-! knows merge || has_merge=1
-has_trace=0
-if knows trace; then has_trace=1; else skip 'with traces: the program has no command trace yet'; fi
-builds_traced=1
-if [ "$has_trace" = 1 ] && [ "$("${tool[@]}" build N E T 2>&1 < /dev/null)" = 'usage 3' ]; then
-    builds_traced=0
-    skip 'build with traces: the program takes none yet'
-fi
+expects build0
+has_run=0 has_merge=0 has_trace=0 builds_traced=0
+! expects run || has_run=1
+! expects merge || has_merge=1
+! expects trace || has_trace=1
+! expects build || builds_traced=1
 
 for binary in "$programs"/bin/*; do
     program=$(basename "$binary")

@@ -2,7 +2,7 @@
 # usage: check_rows.sh PROGRAM [WORD..]
 # Runs the recompiler PROGRAM (the WORDs stand before its own words) on small stated files, real ones in a folder of its own, and
 # compares status, output, report and stored bytes with what is stated here. Where the machine runs 32-bit executables, the
-# original and its recompiled file also run on the processor. Prints each failure, and last 'N passed, M failed'.
+# original and its recompiled file also run on the processor. What is built stands in built.sh: a command of it that is missing fails. Prints each failure, and last 'N passed, M failed'.
 set -u
 [ $# -gt 0 ] || { sed -n 2,2p "$0" >&2; exit 2; }
 here=$(cd "$(dirname "$0")" && pwd)
@@ -149,13 +149,9 @@ machine_rows() {
     row 'the break is at the next page' 0 '' 'exit 73 steps 7 undefined 0\n' run heap
     executable words '8b1c24 b801000000 cd80'
     row 'the number of arguments' 0 '' 'exit 3 steps 3 undefined 0\n' run words one ''
-    [ -w /dev/full ] || return
     "${tool[@]}" run X1 > /dev/full 2> got.err
     if [ $? = 3 ] && [ "$(cat got.err)" = 'outside output' ]; then pass; else fail "an output that cannot be written: $(cat got.err)"; fi
 }
-
-# Whether `build` takes traces already.
-builds_traced() { [ "$("${tool[@]}" build N X1 T1 2>&1 < /dev/null)" != 'usage 3' ]; }
 
 trace_rows() {
     row 'trace' 0 'hi\n' 'exit 0 steps 8 undefined 0 edges 1\n' trace T1 X1
@@ -263,7 +259,7 @@ show_rows() {
     row 'show of a trace of another file' 2 '' 'refused word 2 22 8\n' show X1 T9
     row 'show of the second trace' 2 '' 'refused word 3 21 0\n' show X1 T1 X1
     row 'show of a file below the lowest address' 2 '' 'refused word 1 9 52\n' show low
-    command -v perl > /dev/null || { skip 'show: no perl to make a large trace'; return; }
+    command -v perl > /dev/null || { skip 'show of too many blocks: no perl, which makes a large trace'; return; }
     executable wide "$(perl -e 'print "c3", "90" x 65540')"
     { trace_head 65537 wide; perl -e 'print pack("VV", 0x08048054, 0x08048055 + $_) for 0 .. 65536'; } > targets
     row 'show of too many blocks' 7 '' 'limit blocks 65536\n' show wide targets
@@ -291,6 +287,7 @@ executable X1 "$(hi_code 0x08048000)"
 executable zero "$exit_code"
 chmod +x zero
 find_native ./zero
+expects build0
 build_rows
 refusal_rows
 usage_rows
@@ -300,31 +297,26 @@ if [ "$native_kind" = none ]; then
 fi
 native_row 'the original on the processor' X1
 native_row 'its recompiled file on the processor' N1
-if knows run; then
+if expects run; then
     run_rows
-    if knows_all_instructions; then machine_rows; else
-        skip 'rows on arithmetic, flags and input: the program does not know the whole instruction table yet'; fi
-else
-    skip 'run: the program has no such command yet'
+    machine_rows
 fi
-if knows trace; then
+if expects trace; then
     trace_rows
-    if builds_traced; then traced_rows; else skip 'build with traces: the program takes none yet'; fi
-else
-    skip 'traces: the program has no command trace yet'
+    if expects build; then traced_rows; fi
 fi
-if ! knows merge; then
-    skip 'merge: the program has no such command yet'
-elif command -v perl > /dev/null; then
-    large_traces
-    merge_rows
-else
-    skip 'merge: no perl to make large traces'
+if expects merge; then
+    if command -v perl > /dev/null; then
+        large_traces
+        merge_rows
+    else
+        skip 'merge: no perl, which makes large traces'
+    fi
 fi
-if knows show; then
+if expects show; then
     show_rows
 fi
-if knows session; then
+if expects session; then
     printf 'add T1\nadd T1\nremove 1\nemit N3\nremove 1\n' > script
     "${tool[@]}" session X1 < script > got.out 2> got.err
     if [ $? = 2 ] && [ "$(cat got.err)" = 'refused line 5 32 0' ] && cmp -s N2 N3; then pass; else fail "session: $(cat got.err)"; fi

@@ -1,5 +1,6 @@
 # shellcheck shell=bash
-# What the checks share: counting, and whether and how this machine runs a 32-bit executable.
+# What the checks share: counting, what must be built, and whether and how this machine runs a 32-bit executable.
+. "$(dirname "${BASH_SOURCE[0]}")/built.sh"
 passed=0
 failed=0
 
@@ -63,10 +64,26 @@ knows() {
     [ "$(cat usage)" != 'usage 0' ]
 }
 
-# Whether its `run` knows more than moves and jumps.
-knows_all_instructions() {
-    executable probe '21c0 b801000000 bb00000000 cd80'
-    [ "$("${tool[@]}" run probe 2>&1 < /dev/null)" = 'exit 0 steps 4 undefined 0' ]
+# Whether `build` takes traces: it does not where it refuses the first one at its position.
+knows_build_with_traces() { [ "$("${tool[@]}" build no-file no-file no-file 2>&1 < /dev/null)" != 'usage 3' ] && knows build; }
+
+# Whether the checks of a command are to be made. A command that is built must be there; one that is not built yet is checked where it is
+# there all the same, and else said to wait.
+expects() {
+    local found=0
+    case $1 in
+        build0) knows build || found=1 ;;
+        build) knows_build_with_traces || found=1 ;;
+        *) knows "$1" || found=1 ;;
+    esac
+    if [ "$found" = 0 ]; then
+        return 0
+    elif is_built "$1"; then
+        fail "the program has no command $1, which is built"
+    else
+        waits "checks of $1: it is not built yet"
+    fi
+    return 1
 }
 
 # Takes PROGRAM [WORD..] as the recompiler `tool`, and goes to a `folder` of its own, which is removed at the end.

@@ -7,6 +7,8 @@ use Rattle.top_plan.specs.Expected.{IsExact, IsComplete, HasCause}
 use Rattle.top_plan.specs.Partial.{IsPartial, IsOrderly}
 use Rattle.top_plan.specs.Steady.{IsSteady}
 use Rattle.word_reader.specs.Words.{Asked, Builds, Traces, Runs, Merges, Shows, Sessions, Demos, first_name}
+use Rattle.word_reader.specs.Reads.{asked_of}
+use Rattle.word_reader.specs.declared.command.Command.{Command}
 use Rattle.top_build.specs.BuildPlan.{build_plan}
 use Rattle.top_build.specs.BuildMeaning.{MeansBuild}
 use Rattle.top_run.specs.RunPlan.{run_plan}
@@ -35,6 +37,10 @@ not_asked P words at is p = let Q : Result Asked ℕ → Type 0 = λ r. P (plann
 -- what holds of the plan of the words holds of that of the command that they ask for
 asked_of_words : (P : Result Plan ℕ → Type 0) (words : List (List ℕ)) (asked : Asked) → asked_by words ≡ Ok asked → P (plan words) → P (plan_of asked (first_name words))
 asked_of_words P words asked is p = let Q : Result Asked ℕ → Type 0 = λ r. P (planned r (first_name words)) in subst Q is p
+
+-- a command is what it was matched as
+pub answers_as : (command read : Command) (word : ℕ) (s : World) (result : ℕ) (t : World) → command ≡ read → Answered (plan_of (asked_of read) word) s result t → Answered (plan_of (asked_of command) word) s result t
+answers_as command read word s result t is h = let P : Command → Type 0 = λ c. Answered (plan_of (asked_of c) word) s result t in subst P (sym is) h
 
 -- ---- the laws
 

@@ -1,5 +1,6 @@
 -- The commands that are there so far, read from the words of the command line.
 use Rattle.std.specs.Prelude.{◌≡◌, ◌≤◌, ◌+◌, ◌^◌, ◌||◌, ℕ, min, nat_le, List, [], ◌∷◌, length, codes, Option, Some, None, Result, Ok, Err, cond}
+use Rattle.word_reader.specs.declared.limits.TheConstants.{TRACE_LIMIT}
 use Rattle.std.specs.Str.{bytes_eq}
 use Rattle.run_model.specs.Opening.{FitArguments}
 use Rattle.word_reader.specs.Words.{Asked, Traces, Runs, Merges, Shows, command}
@@ -38,14 +39,11 @@ pub record Fits (steps : ℕ) (args : List (List ℕ)) : Type 0 where
 abbrev pub IsFitting : Asked → Type 0
 IsFitting (Traces steps target original args) = Fits steps args
 IsFitting (Runs steps name args) = Fits steps args
-IsFitting (Merges target original names) = length names ≤ 4096
-IsFitting (Shows original names) = length names ≤ 4096
+IsFitting (Merges target original names) = length names ≤ TRACE_LIMIT
+IsFitting (Shows original names) = length names ≤ TRACE_LIMIT
 IsFitting _ = Unit {0}
 
--- the position of the first wrong word, where one that is wrong stands behind the words that were read
-abbrev pub wrong_or_next : ℕ → Result Asked ℕ → ℕ
-wrong_or_next next (Ok asked) = next
-wrong_or_next next (Err at) = min at next
-
-abbrev pub wrong_in : List (List ℕ) → ℕ
-wrong_in words = wrong_or_next (length words) (asked_by words)
+-- the position of the first wrong word, where one at this position is wrong whatever stands before it
+abbrev pub first_wrong : Result Asked ℕ → ℕ → ℕ
+first_wrong (Ok asked) position = position
+first_wrong (Err at) position = min at position

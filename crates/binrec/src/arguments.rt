@@ -1,8 +1,8 @@
 //! The words of the command line, as the system holds them.
-ghost use Rattle.std.specs.Prelude.{◌<◌, ◌^◌, Some, IfOk, length, map, string_bytes};
-ghost use Rattle.binrec.specs.Words.{wrong_in};
+ghost use Rattle.std.specs.Prelude.{Some, map, string_bytes};
 ghost use Rattle.top_plan.specs.Texts.{usage_text};
 ghost use Rattle.top_plan.specs.Happened.{TellsLine};
+ghost use Rattle.binrec.specs.Words.{asked_by, first_wrong};
 
 use crate::top::Status;
 use crate::words::read_command;
@@ -16,17 +16,17 @@ use top_plan::tell_usage;
 pub struct Arguments {
     /// The words before the first that is not UTF-8, or all of them.
     pub texts: Vec<String>,
-    /// Whether a word that is not UTF-8 stands behind these.
-    pub broken: bool,
+    /// The position of the first word that is not UTF-8, from 0, if there is one.
+    pub broken: Option<u32>,
 }
 
 /// The bytes of the word at an index, where 0 is the program's name, or none where there are fewer words.
 /// The error is want of memory.
-fn word_at<E: Env>(alloc: Global, env: &E, index: usize) -> Result<Option<Vec<u8>>, AllocError> {
+fn word_at<E: Env>(alloc: Global, env: &E, index: u32) -> Result<Option<Vec<u8>>, AllocError> {
     let mut room: usize = 256;
     for _doubling in 0..32 {
         let mut bytes = vec![in alloc; 0u8; room]?;
-        match env.arg(index, bytes.as_mut_slice()) {
+        match env.arg(index as usize, bytes.as_mut_slice()) {
             Ok(length) => {
                 bytes.truncate(length);
                 return Ok(Some(bytes));
@@ -39,21 +39,19 @@ fn word_at<E: Env>(alloc: Global, env: &E, index: usize) -> Result<Option<Vec<u8
 }
 
 /// The words behind the program's name, up to the first that is not UTF-8. The error is want of memory.
-pub fn read_arguments<E: Env>(alloc: Global, env: &E) -> Result<Arguments, AllocError>
-    ensures { IfOk result (λ read. length read.texts.items < 2 ^ 32) }
-{
+pub fn read_arguments<E: Env>(alloc: Global, env: &E) -> Result<Arguments, AllocError> {
     let mut texts = Vec::new(alloc);
-    for index in 1..u32::MAX {
-        let Some(bytes) = word_at(alloc, env, index as usize)? else {
+    for position in 0..u32::MAX {
+        let Some(bytes) = word_at(alloc, env, position + 1)? else {
             return Ok(Arguments {
                 texts,
-                broken: false,
+                broken: None,
             });
         };
         let Ok(text) = String::from_utf8(bytes) else {
             return Ok(Arguments {
                 texts,
-                broken: true,
+                broken: Some(position),
             });
         };
         texts.push(text)?;
@@ -61,16 +59,14 @@ pub fn read_arguments<E: Env>(alloc: Global, env: &E) -> Result<Arguments, Alloc
     Err(AllocError)
 }
 
-/// Reports that words are no command, since one that is not UTF-8 stands behind them, and answers the status. The line
-/// has the position of the first of them that is wrong, or else of that one.
-pub fn tell_broken<R: Sink>(report: &mut R, words: &[String]) -> Status
-    requires { length words.now < 2 ^ 32 }
-    ensures { TellsLine (Some (usage_text (wrong_in (map string_bytes words.now)))) 1 (R.seen report.old) result.0 (R.seen report.new) }
+/// Reports that words are no command, since the one at a position is not UTF-8, and answers the status: the line has the
+/// position of the first that is wrong of the `words` before it, or else its own.
+pub fn tell_broken<R: Sink>(report: &mut R, words: &[String], position: u32) -> Status
+    ensures { TellsLine (Some (usage_text (first_wrong (asked_by (map string_bytes words.now)) position))) 1
+        (R.seen report.old) result.0 (R.seen report.new) }
 {
-    let behind = words.len() as u32;
-    let at = match read_command(words) {
-        Ok(_) => behind,
-        Err(at) => at.min(behind),
-    };
-    Status(tell_usage(report, at))
+    match read_command(words) {
+        Ok(_) => Status(tell_usage(report, position)),
+        Err(at) => Status(tell_usage(report, at.min(position))),
+    }
 }

@@ -27,8 +27,8 @@ fn main(rt: HostRuntime) -> ExitCode {
     let Ok(arguments) = read_arguments(alloc, &rt) else {
         return ExitCode::from(tell(&mut report, b"memory\n", 4));
     };
-    if arguments.broken {
-        return ExitCode::from(tell_broken(&mut report, &arguments.texts).0);
+    if let Some(position) = arguments.broken {
+        return ExitCode::from(tell_broken(&mut report, &arguments.texts, position).0);
     }
     let mut shelf = FileShelf::new(alloc, &rt);
     let mut input = InputSource::new(rt.stdin());

@@ -86,7 +86,8 @@ fn answer<F: Shelf, I: Source, O: Sink, R: Sink>(
             );
             tell_end(report, end)
         }
-        Command::Session { .. } | Command::Demo { .. } => tell_usage(report, 0),
+        Command::Session { .. } => tell_usage(report, 0),
+        Command::Demo { .. } => tell_usage(report, 0),
     }
 }
 

@@ -31,17 +31,19 @@ pub fn read_command(words: &[String]) -> Result<Command<'_>, u32>
     let [first, ..] = words else {
         return Err(0);
     };
-    let read = read_words(words);
-    let Some(taken) = words_taken(first.as_str()) else {
-        return read.map_err(|usage| usage.at);
-    };
-    match read {
+    let taken = words_taken(first.as_str());
+    match read_words(words) {
         Ok(command) => {
-            if words.len() > taken as usize {
-                return Err(taken);
+            if let Some(taken) = taken {
+                if words.len() > taken as usize {
+                    return Err(taken);
+                }
             }
             Ok(command)
         }
-        Err(usage) => Err(usage.at.min(taken)),
+        Err(usage) => match taken {
+            Some(taken) => Err(usage.at.min(taken)),
+            None => Err(usage.at),
+        },
     }
 }

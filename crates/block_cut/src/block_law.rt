@@ -1,6 +1,8 @@
 //! The laws of blocks.
 ghost use Rattle.block_cut.specs.Blocks.{EachHasOneBlock, EachFollowsAbove};
 
+use ia_decode::encoding_length;
+
 /// Each start has one block, and no other list of instructions is a block of it. The call does nothing: its
 /// contract is the law.
 pub fn one_block()
@@ -11,4 +13,6 @@ pub fn one_block()
 /// nothing: its contract is the law.
 pub fn following_above()
     ensures { EachFollowsAbove }
-{}
+{
+    encoding_length();
+}

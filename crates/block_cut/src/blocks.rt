@@ -6,6 +6,7 @@ ghost use Rattle.block_cut.specs.Blocks.{block_of, cut_of, next_of, follow_of};
 use crate::ends::{Cut, End, MAX_INSTRUCTIONS};
 use crate::places::placed;
 use elf_read::{Exe, in_exec};
+use ia_decode::encoding_length;
 use ia_inst::{Kind, kind};
 
 /// A cut with one more instruction, of `len` bytes at `at`.
@@ -83,6 +84,7 @@ pub fn address_behind(exe: &Exe, start: u32, block: &Cut) -> u32
     ensures value { result ≡ next_of exe.now start }
     ensures fits { result ≡ start + block.now.len }
 {
+    encoding_length();
     start + block.len
 }
 

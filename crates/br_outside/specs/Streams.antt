@@ -2,6 +2,7 @@
 use Rattle.std.specs.Prelude.{◌≡◌, ℕ, ◌≤◌, List, [], ◌++◌, Some, IfSome, option_map, IsTrue}
 use Rattle.br_outside.specs.Outside.{StreamView, Rose}
 
+-- a source and two sinks
 pub record Streams : Type 0 where
   pub input : StreamView
   -- descriptors 1 and 2
@@ -32,10 +33,12 @@ HasLeft rest old new = IfSome old.bytes (λ left. new.bytes ≡ Some rest)
 abbrev pub WasGiven : List ℕ → StreamView → StreamView → Type 0
 WasGiven more old new = new.bytes ≡ option_map (λ written. written ++ more) old.bytes
 
+-- a source was asked, did not fail, and has these bytes left
 pub record Leaves (rest : List ℕ) (old new : StreamView) : Type 0 where
   pub bytes : HasLeft rest old new
   pub steady : Steady old new
 
+-- a sink was given these bytes, and did not fail
 pub record Gains (more : List ℕ) (old new : StreamView) : Type 0 where
   pub bytes : WasGiven more old new
   pub steady : Steady old new

@@ -1,9 +1,23 @@
-//! Loops over read and write.
-ghost use Rattle.std.specs.Prelude.{◌≡◌, ◌≤◌, ℕ, length, IfOk};
+//! Loops over read and write. A call that a signal interrupted is made again.
+ghost use Rattle.std.specs.Prelude.{◌≡◌, ◌≤◌, ℕ, length, IfOk, IfSome};
 
 use br_outside::ShelfError;
 use std::alloc::Global;
-use std::io::{Read, Write};
+use std::io::{ErrorKind, Read, Write};
+
+/// What one read gives, and `None` where it failed.
+pub fn read_once<T: Read>(reader: &mut T, into: &mut [u8]) -> Option<usize>
+    ensures { IfSome result (λ count. count ≤ length into.new) }
+{
+    for _ in 0..u64::MAX {
+        match reader.read(into) {
+            Ok(count) => return Some(count),
+            Err(error) if error.kind() == ErrorKind::Interrupted => {}
+            Err(_) => return None,
+        }
+    }
+    None
+}
 
 /// All bytes of a reader. `TooLong` comes only after `limit + 1` bytes were read, and `Failed` where a read failed.
 pub fn read_whole<T: Read>(alloc: Global, reader: &mut T, limit: u32) -> Result<Vec<u8>, ShelfError>
@@ -13,10 +27,7 @@ pub fn read_whole<T: Read>(alloc: Global, reader: &mut T, limit: u32) -> Result<
     let mut piece = [0u8; 4096];
     for _ in 0..u64::MAX {
         let room = (limit as usize + 1 - bytes.len()).min(piece.len());
-        let count = match reader.read(&mut piece[..room]) {
-            Ok(count) => count,
-            Err(_) => return Err(ShelfError::Failed),
-        };
+        let count = read_once(reader, &mut piece[..room]).ok_or(ShelfError::Failed)?;
         if count == 0 {
             return Ok(bytes);
         }
@@ -31,11 +42,27 @@ pub fn read_whole<T: Read>(alloc: Global, reader: &mut T, limit: u32) -> Result<
 /// Writes all bytes, and says whether that succeeded. A write that takes nothing of some bytes is a failure.
 pub fn write_whole<T: Write>(writer: &mut T, bytes: &[u8]) -> bool {
     let mut done = 0;
-    while done < bytes.len() {
+    for _ in 0..u64::MAX {
+        if done >= bytes.len() {
+            return flush_whole(writer);
+        }
         match writer.write(&bytes[done..]) {
             Ok(count) if count > 0 => done += count,
+            Err(error) if error.kind() == ErrorKind::Interrupted => {}
             _ => return false,
         }
     }
-    writer.flush().is_ok()
+    false
+}
+
+/// Flushes, and says whether that succeeded.
+fn flush_whole<T: Write>(writer: &mut T) -> bool {
+    for _ in 0..u64::MAX {
+        match writer.flush() {
+            Ok(()) => return true,
+            Err(error) if error.kind() == ErrorKind::Interrupted => {}
+            Err(_) => return false,
+        }
+    }
+    false
 }

@@ -3,9 +3,11 @@ ghost use Rattle.std.specs.Prelude.{◌≡◌, None, false};
 
 use crate::copying::{read_whole, write_whole};
 use br_outside::{Shelf, ShelfError, StoreError};
-use std::alloc::Global;
+use std::alloc::{AllocError, Global};
 use std::fs;
-use std::fs::{File, Permissions};
+use std::fs::{File, Metadata, OpenFile, Permissions};
+use std::io::{ErrorKind, Write};
+use std::os::unix::fs::{MetadataExt, PermissionsExt};
 use std::rt::Files;
 
 /// A shelf over the file system. A name is a path.
@@ -44,15 +46,16 @@ impl<'a, R: Files> Shelf for FileShelf<'a, R> {
         answer
     }
 
-    /// The bytes go to a new file `NAME.part`, which then gets the name, so that a store that fails leaves the old
-    /// content. Where the name is a link, a device or the like, or `NAME.part` is there or cannot be made, they are
-    /// written in place.
+    /// The bytes go to a new file beside the name, `NAME.part`, or `NAME.part1` up to `NAME.part9` where that is taken. It
+    /// then gets the name, so that a store that fails, also on a full disk, leaves the old content. It has the
+    /// permissions that the name had, the nine bits of them, unless the owner changes, who is the caller.
+    ///
+    /// The bytes are written in place where the name is a link, a device or the like, and where the folder or the
+    /// file system refuses a new file, its permissions or the new name. A store in place that fails may leave a front part of them.
     fn store(&mut self, name: &str, bytes: &[u8]) -> Result<(), StoreError> {
         // A field that the body reads is known to be in the range of its type.
         let _faults = self.faults;
-        let mut part = String::from_str(self.alloc, name)?;
-        part.push_str(".part")?;
-        if write_file(self.files, name, &part, bytes) {
+        if write_file(self.alloc, self.files, name, bytes)? {
             return Ok(());
         }
         self.faults = self.faults.saturating_add(1);
@@ -60,42 +63,116 @@ impl<'a, R: Files> Shelf for FileShelf<'a, R> {
     }
 }
 
+/// What a new file beside a name has behind the name, in the order in which they are tried.
+const SUFFIXES: [&str; 10] = [
+    ".part", ".part1", ".part2", ".part3", ".part4", ".part5", ".part6", ".part7", ".part8",
+    ".part9",
+];
+
+/// How a way to store ended.
+#[derive(Clone, Copy, PartialEq, Eq)]
+enum Ending {
+    Written,
+    Failed,
+    /// Nothing was changed, and the system does not allow this way.
+    Refused,
+}
+
 /// Makes the bytes the content of a file, and says whether that succeeded.
-fn write_file<R: Files>(files: &R, name: &str, part: &str, bytes: &[u8]) -> bool {
-    let old = fs::symlink_metadata(files, name);
-    let mode = match old {
-        Ok(old) if old.is_file() => Some(old.permissions()),
-        Ok(_) => return write_in_place(files, name, bytes),
+fn write_file<R: Files>(
+    alloc: Global,
+    files: &R,
+    name: &str,
+    bytes: &[u8],
+) -> Result<bool, AllocError> {
+    let old = match fs::symlink_metadata(files, name) {
+        Ok(old) if old.is_file() => Some(old),
+        Ok(_) => return Ok(write_in_place(files, name, bytes)),
         Err(_) => None,
     };
-    match File::create_new(files, part) {
-        Ok(mut file) => {
-            let written = write_whole(&mut file, bytes) && takes_over(files, name, part, mode);
-            if !written {
-                let _left = fs::remove_file(files, part);
-            }
-            written
+    let ending = match new_part(alloc, files, name)? {
+        Some((part, file)) => replace(files, name, &part, file, old.as_ref(), bytes),
+        None => Ending::Refused,
+    };
+    Ok(match ending {
+        Ending::Written => true,
+        Ending::Failed => false,
+        Ending::Refused => write_in_place(files, name, bytes),
+    })
+}
+
+/// A new file beside the name, and its name; none where the system does not make one.
+fn new_part<R: Files>(
+    alloc: Global,
+    files: &R,
+    name: &str,
+) -> Result<Option<(String, R::File)>, AllocError> {
+    for suffix in SUFFIXES {
+        let mut part = String::from_str(alloc, name)?;
+        part.push_str(suffix)?;
+        match File::create_new(files, part.as_str()) {
+            Ok(file) => return Ok(Some((part, file))),
+            Err(error) if error.kind() == ErrorKind::AlreadyExists => {}
+            Err(_) => return Ok(None),
         }
-        Err(_) => write_in_place(files, name, bytes),
+    }
+    Ok(None)
+}
+
+/// Writes the bytes to the new file `part` and gives it the name. Where that does not come to its end, `part` is removed.
+fn replace<R: Files>(
+    files: &R,
+    name: &str,
+    part: &str,
+    file: R::File,
+    old: Option<&Metadata>,
+    bytes: &[u8],
+) -> Ending {
+    let mut ending = Ending::Refused;
+    if keep_permissions(&file, old) {
+        ending = write_through(file, bytes);
+    }
+    if ending == Ending::Written && fs::rename(files, part, name).is_err() {
+        ending = Ending::Refused;
+    }
+    if ending != Ending::Written {
+        let _left = fs::remove_file(files, part);
+    }
+    ending
+}
+
+/// Writes the bytes to the device itself, where the file lies on one.
+fn write_through<F: Write + OpenFile + Drop>(mut file: F, bytes: &[u8]) -> Ending {
+    if write_whole(&mut file, bytes) && file.sync_all().is_ok() {
+        Ending::Written
+    } else {
+        Ending::Failed
     }
 }
 
-/// Gives the name to the file `part`, with the permissions that the name had.
-fn takes_over<R: Files>(files: &R, name: &str, part: &str, mode: Option<Permissions>) -> bool {
-    if let Some(mode) = mode {
-        if fs::set_permissions(files, part, mode).is_err() {
-            return false;
-        }
+/// Gives a new file the nine bits of permissions of the old one where both have one owner. Says whether the system allowed it.
+fn keep_permissions<F: OpenFile>(file: &F, old: Option<&Metadata>) -> bool {
+    let Some(old) = old else {
+        return true;
+    };
+    let Ok(new) = file.metadata() else {
+        return false;
+    };
+    if new.uid() != old.uid() {
+        return true;
     }
-    fs::rename(files, part, name).is_ok()
+    let kept = Permissions::from_mode(old.mode() & 0o777);
+    file.set_permissions(kept).is_ok()
 }
 
 /// Writes the bytes over what the name holds.
 fn write_in_place<R: Files>(files: &R, name: &str, bytes: &[u8]) -> bool {
-    match File::create(files, name) {
-        Ok(mut file) => write_whole(&mut file, bytes),
-        Err(_) => false,
-    }
+    let Ok(mut file) = File::create(files, name) else {
+        return false;
+    };
+    // A device or a pipe has nothing to sync.
+    let is_kept = file.metadata().is_ok_and(|m| m.is_file());
+    write_whole(&mut file, bytes) && (!is_kept || file.sync_all().is_ok())
 }
 
 #[cfg(test)]
@@ -133,5 +210,35 @@ mod tests {
         assert_eq!(rt; shelf.faults, 5);
         assert!(rt; fs::remove_file(&rt, name).is_ok());
         Ok(())
+    }
+
+    /// The content of a file, as text, for a comparison.
+    fn holds(rt: &HostRuntime, name: &str, text: &str) -> bool {
+        fs::read_to_string(rt, name).is_ok_and(|content| content.as_str() == text)
+    }
+
+    #[test]
+    fn stores_beside_parts_that_were_left(rt: HostRuntime) -> std::io::Result<()> {
+        let mut shelf = FileShelf::new(rt.alloc(), &rt);
+        let name = "beside_by_br_real";
+        fs::write(&rt, "beside_by_br_real.part", "left")?;
+        fs::write(&rt, name, "old")?;
+        fs::set_permissions(&rt, name, Permissions::from_mode(0o4641))?;
+        assert_eq!(rt; shelf.store(name, b"new"), Ok(()));
+        assert!(rt; holds(&rt, name, "new"));
+        assert!(rt; holds(&rt, "beside_by_br_real.part", "left"));
+        assert!(rt; fs::symlink_metadata(&rt, "beside_by_br_real.part1").is_err());
+        assert_eq!(rt; fs::metadata(&rt, name)?.mode() & 0o7777, 0o641);
+
+        // A link stays a link, and the file that it leads to is written in place.
+        let link = "link_by_br_real";
+        std::os::unix::fs::symlink(&rt, name, link)?;
+        assert_eq!(rt; shelf.store(link, b"by link"), Ok(()));
+        assert!(rt; fs::symlink_metadata(&rt, link)?.is_symlink());
+        assert!(rt; holds(&rt, name, "by link"));
+        assert_eq!(rt; shelf.faults, 0);
+        fs::remove_file(&rt, link)?;
+        fs::remove_file(&rt, "beside_by_br_real.part")?;
+        fs::remove_file(&rt, name)
     }
 }

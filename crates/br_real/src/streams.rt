@@ -1,7 +1,7 @@
 //! The standard streams, or any other reader and writer.
 ghost use Rattle.std.specs.Prelude.{◌≡◌, None, false};
 
-use crate::copying::write_whole;
+use crate::copying::{read_once, write_whole};
 use br_outside::{Failed, Sink, SinkError, Source};
 use std::io::{Read, Write};
 
@@ -30,15 +30,11 @@ impl<T: Read> Source for InputSource<T> {
     fn take(&mut self, into: &mut [u8]) -> Result<usize, Failed> {
         let mut piece = [0u8; 4096];
         let room = into.len().min(piece.len());
-        let answer = self.input.read(&mut piece[..room]);
-        self.faults = self.faults.saturating_add(u64::from(answer.is_err()));
-        match answer {
-            Ok(count) => {
-                into[..count].copy_from_slice(&piece[..count]);
-                Ok(count)
-            }
-            Err(_) => Err(Failed),
-        }
+        let answer = read_once(&mut self.input, &mut piece[..room]);
+        self.faults = self.faults.saturating_add(u64::from(answer.is_none()));
+        let count = answer.ok_or(Failed)?;
+        into[..count].copy_from_slice(&piece[..count]);
+        Ok(count)
     }
 }
 

@@ -1,5 +1,5 @@
 -- The state of a guest (SDM volume 1, 3.4; the stop and the streams are those of the process).
-use Rattle.std.specs.Prelude.{ℕ, Bool, List, get_or}
+use Rattle.std.specs.Prelude.{ℕ, Bool, List, get_or, ◌≡◌, ◌^◌, ◌<◌, length}
 use Rattle.br_word.specs.declared.types.Flags.{Flags}
 use Rattle.br_word.specs.declared.types.GuestFault.{GuestFault}
 use Rattle.br_word.specs.Memory.{Region}
@@ -20,6 +20,11 @@ pub record Processor : Type 0 where
   pub df : Bool
   -- which of the flags are defined
   pub marks : Flags
+
+-- eight registers of 32 bits (SDM volume 1, 3.4.1)
+pub record AreRegs (regs : List ℕ) : Type 0 where
+  pub count : length regs ≡ 8
+  pub small : (r : ℕ) → get_or regs r 0 < 2 ^ 32
 
 -- all that a guest's next step depends on, and what it has written
 pub record State : Type 0 where

@@ -1,2 +1,2 @@
-pub mod Preserved
-pub mod Whole
+pub mod JumpPreserves
+pub mod OriginalImages

@@ -1,5 +1,6 @@
-pub mod Reach
-pub mod Sites
-pub mod Made
-pub mod Increase
+pub mod StartSets
+pub mod SiteRuns
+pub mod RowsShow
+pub mod IndexOf
+pub mod Ascending
 pub mod OneList

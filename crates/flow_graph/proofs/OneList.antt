@@ -1,65 +1,23 @@
 -- The graph of an executable and edges is one list.
 use Rattle.std.proofs.Common.{◌≡◌, ℕ, zero, suc, ◌+◌, ◌^◌, ◌<◌, ◌≤◌, Bool, true, false, ◌&&◌, ◌||◌, List, [], ◌∷◌, length, get_or, Option, Some, None, refl, sym, subst, ap, ◌∙◌, inl, inr, arith}
-use Rattle.std.specs.Prelude.{Contains, All, map, ◌↔◌}
-use Rattle.std.specs.Bool.{then_some}
+use Rattle.std.specs.Prelude.{Contains, All, IsTrue, map, ◌↔◌}
 use Rattle.std.proofs.lemmas.List.Elements.{All-head, All-tail, All-contains, Contains-get_or}
-use Rattle.std.proofs.lemmas.List.Sums.{sum_by-cons}
 use Rattle.std.proofs.lemmas.Bool.Decides.{nat_tests}
 use Rattle.elf_read.specs.declared.exe.Exe.{Exe}
 use Rattle.elf_read.specs.declared.exe.Segment.{Segment}
 use Rattle.elf_read.specs.Elf.{AreSegments, IsGuest, in_segment, is_exec}
-use Rattle.elf_read.specs.Code.{code_at}
-use Rattle.ia_inst.specs.declared.inst.Inst.{Inst}
-use Rattle.ia_inst.specs.Step.{There}
-use Rattle.ia_decode.proofs.DecodedInstruction.{decode_length}
-use Rattle.block_cut.specs.declared.ends.End.{End}
-use Rattle.block_cut.specs.declared.ends.End.TheVariants.{Transfer, Island, BeforeIsland, Unreadable, Full}
-use Rattle.block_cut.specs.Places.{Placed, found_at, inst_found}
-use Rattle.block_cut.specs.Blocks.{size_of, StandFrom, EndsSo, block_of, is_followed, next_of, follow_of}
-use Rattle.block_cut.proofs.Standing.{found_is}
-use Rattle.block_cut.proofs.Unique.{block_is}
-use Rattle.block_cut.proofs.Follows.{follow_exec}
-use Rattle.trace_file.specs.Edges.{Edge}
+use Rattle.block_cut.specs.Blocks.{follow_of, EachFollowsAbove}
+use Rattle.run_model.specs.Edges.{Edge}
 use Rattle.trace_file.proofs.Union.{here, there, first_or_later}
 use Rattle.trace_file.proofs.Unique.{none}
-use Rattle.flow_graph.specs.Graph.{counting, known_of, Leads, IsReached, IsStart, AreStarts, HasTooMany, Node, starts_in, IsGraph}
-use Rattle.flow_graph.specs.Made.{from_some, chain, reached_from, starts_of, nodes_from, graph_of, OneGraph}
-use Rattle.flow_graph.proofs.Increase.{Up, Within, to_up, of_up, same_list, no_longer, at_first, from_starts, to_starts, up_starts}
+use Rattle.block_cut.specs.CountedEdges.{counting}
+use Rattle.flow_graph.specs.Graph.{known_of, Leads, IsReached, IsStart, AreStarts, HasTooMany, Node, starts_in, IsGraph, AreCode}
+use Rattle.flow_graph.specs.GraphOf.{from_some, chain, reached_from, starts_of, nodes_from, graph_of, OneGraph}
+use Rattle.flow_graph.proofs.StartSets.{start_exec}
+use Rattle.flow_graph.proofs.RowsShow.{counted_exec}
+use Rattle.flow_graph.proofs.Ascending.{Up, Within, to_up, of_up, same_list, no_longer, at_first, from_starts, to_starts, up_starts}
 
--- ---- a following start is above its start
-
-found_size : (exe : Exe) (at : ℕ) (i : Inst) (n : ℕ) → found_at exe at ≡ There i n → 0 < n
-found_size exe at i n e =
-    let l = decode_length (code_at at exe.segments) (i, n) (sym (found_is exe at) ∙ ap inst_found e) in
-    omega (arith, l.0)
-
-some_size : (exe : Exe) (at : ℕ) (is : List Placed) → StandFrom exe at is → 0 < length is → 0 < size_of is
-some_size exe at [] h l = absurd (omega arith)
-some_size exe at (p ∷ ps) h l = omega (arith, found_size exe at p.inst p.size h.1, sum_by-cons (λ (p : Placed). p.size) p ps)
-
-some_insts : (exe : Exe) (next : ℕ) (is : List Placed) (end : End) → EndsSo exe next is end → is_followed end ≡ true → 0 < length is
-some_insts exe next is Transfer h f = cc
-some_insts exe next is Island h f = omega (arith, h.1)
-some_insts exe next is BeforeIsland h f = h.1
-some_insts exe next is Unreadable h f = cc
-some_insts exe next is Full h f = omega (arith, h.1)
-
-next_above : (exe : Exe) (s : ℕ) → is_followed (block_of exe s).end ≡ true → s < next_of exe s
-next_above exe s f =
-    let b = block_is exe s in
-    let l = some_insts exe (s + size_of (block_of exe s).insts) (block_of exe s).insts (block_of exe s).end b.ends f in
-    omega (arith, some_size exe s (block_of exe s).insts b.stand l)
-
-follow_above : (exe : Exe) (s t : ℕ) → follow_of exe s ≡ Some t → s < t
-unfolding follow_of
-follow_above exe s t = go (is_followed (block_of exe s).end) (is_exec (next_of exe s) exe.segments) refl
-  where
-    go : (b c : Bool) → is_followed (block_of exe s).end ≡ b → then_some (b && c) (next_of exe s) ≡ Some t → s < t
-    go true true e h = let n : next_of exe s ≡ t = cc in omega (arith, n, next_above exe s e)
-    go true false e h = cc
-    go false c e h = cc
-
--- ---- and executable, so below the end of memory
+-- ---- a start in code is below the end of memory
 
 in_below : (exec : Bool) (at : ℕ) (s : Segment) → (exec && in_segment at s) ≡ true → at < s.start + s.size
 in_below true at s e = grind (arith, nat_tests)
@@ -75,13 +33,17 @@ exec_below low at (s ∷ ss) each e = go (s.perms.exec && in_segment at s) refl 
 
 -- ---- walks of following starts
 
-above : (exe : Exe) (n s t : ℕ) → Leads exe n s t → s + n ≤ t
-above exe zero s t h = omega (arith, h)
-above exe (suc n) s t h = omega (arith, above exe n s h.0 h.1, follow_above exe h.0 t h.2)
+-- of an executable that is a guest, and the law of following starts
+abbrev IsSure : Exe → Type 0
+IsSure exe = IsGuest exe × EachFollowsAbove
 
-few : (exe : Exe) (n s t : ℕ) → IsGuest exe → Leads exe n s t → n < 2 ^ 32
+above : (exe : Exe) (n s t : ℕ) → IsSure exe → Leads exe n s t → s + n ≤ t
+above exe zero s t g h = omega (arith, h)
+above exe (suc n) s t g h = omega (arith, above exe n s h.0 g h.1, (g.1 exe h.0 t h.2).0)
+
+few : (exe : Exe) (n s t : ℕ) → IsSure exe → Leads exe n s t → n < 2 ^ 32
 few exe zero s t g h = omega arith
-few exe (suc n) s t g h = omega (arith, above exe (suc n) s t h, exec_below 0x01000000 t exe.segments g.segments (follow_exec exe h.0 t h.2))
+few exe (suc n) s t g h = omega (arith, above exe (suc n) s t g h, exec_below 0x01000000 t exe.segments g.0.segments (g.1 exe h.0 t h.2).1)
 
 -- by the first step
 first_step : (exe : Exe) (n s t : ℕ) → Leads exe (suc n) s t → (u : ℕ) × (follow_of exe s ≡ Some u) × Leads exe n u t
@@ -120,7 +82,7 @@ from_chain exe (suc n) s t c = elim (first_or_later s t (from_some (chain exe n)
     later rest None e d = absurd (none t d)
     later rest (Some u) e d = let r = rest u t d in (suc r.0, step_before exe r.0 s t u e r.1)
 
-has_reached : (exe : Exe) (s t : ℕ) → IsGuest exe → IsReached exe s t → Contains (reached_from exe s) t
+has_reached : (exe : Exe) (s t : ℕ) → IsSure exe → IsReached exe s t → Contains (reached_from exe s) t
 unfolding reached_from
 has_reached exe s t g r = has exe (2 ^ 32) r.0 s t (few exe r.0 s t g r.1) r.1
 
@@ -143,7 +105,7 @@ to_start exe (e ∷ es) s c = elim (from_starts s (reached_from exe e.1) (starts
   | inr d ↦ let h = to_start exe es s d in record { edge = h.edge; traced = there e h.edge es h.traced; reached = h.reached }
 ]
 
-traced_reached : (exe : Exe) (es : List Edge) (e : Edge) (s : ℕ) → IsGuest exe → Contains es e → IsReached exe e.1 s → Contains (starts_of exe es) s
+traced_reached : (exe : Exe) (es : List Edge) (e : Edge) (s : ℕ) → IsSure exe → Contains es e → IsReached exe e.1 s → Contains (starts_of exe es) s
 unfolding starts_of
 traced_reached exe [] e s g c r = absurd (none e c)
 traced_reached exe (a ∷ es) e s g c r = to_starts s (reached_from exe a.1) (starts_of exe es) (elim (first_or_later a e es c) [
@@ -151,7 +113,7 @@ traced_reached exe (a ∷ es) e s g c r = to_starts s (reached_from exe a.1) (st
   | inr d ↦ inr (traced_reached exe es e s g d r)
 ])
 
-are_starts : (exe : Exe) (es : List Edge) → IsGuest exe → AreStarts exe es (starts_of exe es)
+are_starts : (exe : Exe) (es : List Edge) → IsSure exe → AreStarts exe es (starts_of exe es)
 are_starts exe es g = record {
   ascend = of_up (starts_of exe es) (up exe es);
   each = λ s. ((to_start exe es s), (λ h. traced_reached exe es h.edge s g h.traced h.reached));
@@ -187,17 +149,17 @@ nodes_are exe es (b ∷ g) h =
 
 -- ---- the law, of edges that count
 
-nodes_start : (exe : Exe) (es : List Edge) → IsGuest exe → AreStarts exe es (starts_in (nodes_from exe es))
+nodes_start : (exe : Exe) (es : List Edge) → IsSure exe → AreStarts exe es (starts_in (nodes_from exe es))
 nodes_start exe es g =
     let P : List ℕ → Type 0 = λ ss. AreStarts exe es ss in
     subst P (sym (starts_in_map exe es (starts_of exe es))) (are_starts exe es g)
 
-only_nodes : (exe : Exe) (es : List Edge) (g : List Node) → IsGuest exe → IsGraph exe es g → g ≡ nodes_from exe es
+only_nodes : (exe : Exe) (es : List Edge) (g : List Node) → IsSure exe → IsGraph exe es g → g ≡ nodes_from exe es
 only_nodes exe es g guest h =
     nodes_are exe es g h.known
     ∙ ap (λ ss. map (node exe es) ss) (same_starts exe es (starts_in g) (starts_of exe es) h.starts (are_starts exe es guest))
 
-too_many : (exe : Exe) (es : List Edge) → IsGuest exe → HasTooMany exe es ↔ (65536 < length (nodes_from exe es))
+too_many : (exe : Exe) (es : List Edge) → IsSure exe → HasTooMany exe es ↔ (65536 < length (nodes_from exe es))
 too_many exe es guest = (many, back)
   where
     many : HasTooMany exe es → 65536 < length (nodes_from exe es)
@@ -209,10 +171,23 @@ too_many exe es guest = (many, back)
     back : 65536 < length (nodes_from exe es) → HasTooMany exe es
     back l = (starts_of exe es, of_up (starts_of exe es) (up exe es), omega (arith, l, length_map exe es (starts_of exe es)), λ k d i. to_start exe es (get_or (starts_of exe es) k d) (Contains-get_or (starts_of exe es) k d i))
 
-pub is_one_graph : OneGraph
+node_exec : (exe : Exe) (es : List Edge) (ss : List ℕ) → ((s : ℕ) → Contains ss s → IsTrue (is_exec s exe.segments)) → (k : ℕ) (d : Node) → k < length (map (node exe es) ss) → IsTrue (is_exec (get_or (map (node exe es) ss) k d).start exe.segments)
+node_exec exe es [] h k d l = absurd (omega arith)
+node_exec exe es (s ∷ ss) h zero d l = h s (here s ss)
+node_exec exe es (s ∷ ss) h (suc k) d l = node_exec exe es ss (λ t c. h t (there s t ss c)) k d (omega arith)
+
+are_code : (exe : Exe) (edges : List Edge) → EachFollowsAbove → AreCode exe (nodes_from exe (counting exe edges))
+are_code exe edges law =
+    let es = counting exe edges in
+    let P : Edge → Type 0 = λ e. IsTrue (is_exec e.1 exe.segments) in
+    let all = counted_exec exe edges es refl in
+    node_exec exe es (starts_of exe es) (λ s c. start_exec exe es law (λ e in'. subst P in'.2 (all in'.0 e in'.1)) s (to_start exe es s c))
+
+pub is_one_graph : EachFollowsAbove → OneGraph
 unfolding graph_of
-is_one_graph = record {
-  starts = λ exe edges guest. nodes_start exe (counting exe edges) guest;
-  only = λ exe edges g guest h. only_nodes exe (counting exe edges) g guest h;
-  many = λ exe edges guest. too_many exe (counting exe edges) guest;
+is_one_graph law = record {
+  starts = λ exe edges guest. nodes_start exe (counting exe edges) (guest, law);
+  only = λ exe edges g guest h. only_nodes exe (counting exe edges) g (guest, law) h;
+  many = λ exe edges guest. too_many exe (counting exe edges) (guest, law);
+  code = λ exe edges. are_code exe edges law;
 }

@@ -1,25 +1,16 @@
--- The graph of an executable and control-flow edges: which edges count, the starts of blocks, and their known exits.
-use Rattle.std.specs.Prelude.{◌≡◌, ℕ, zero, suc, ◌<◌, ◌==◌, Bool, true, ◌&&◌, ◌||◌, List, length, Some, Contains, All, IsTrue, ◌↔◌, map, filter, slice_index_or, option_to_list, []}
+-- The graph of an executable and the control-flow edges that count: the starts of blocks, their known exits, and how far
+-- they go.
+use Rattle.std.specs.Prelude.{◌≡◌, ℕ, zero, suc, ◌<◌, ◌==◌, Bool, true, ◌↔◌, Some, IsTrue}
+use Rattle.std.specs.Prelude.{List, [], length, Contains, All, map, filter, slice_index_or, option_to_list}
 use Rattle.std.specs.List.Sorted.{IsStrictlyIncreasing}
 use Rattle.elf_read.specs.declared.exe.Exe.{Exe}
 use Rattle.elf_read.specs.Elf.{is_exec}
+use Rattle.run_model.specs.Edges.{Edge}
 use Rattle.block_cut.specs.declared.ends.End.{End}
-use Rattle.block_cut.specs.declared.ends.End.TheVariants.{Transfer}
-use Rattle.block_cut.specs.Transfers.{leads_to}
-use Rattle.block_cut.specs.Blocks.{last_of, block_of, follow_of}
-use Rattle.trace_file.specs.Edges.{Edge}
-
--- the pair that says that a run began
-abbrev pub is_beginning : Exe → Edge → Bool
-is_beginning exe e = e.0 == 0 && e.1 == exe.entry
-
--- its target is code, and it says that a run began, or a transfer at its site may lead to its target
-unfoldable pub counts : Exe → Edge → Bool
-counts exe e = is_exec e.1 exe.segments && (is_beginning exe e || leads_to exe e.0 e.1)
-
--- the edges that count
-abbrev pub counting : Exe → List Edge → List Edge
-counting exe es = filter (counts exe) es
+use Rattle.block_cut.specs.declared.ends.End.TheVariants.{Transfer, Unreadable}
+use Rattle.block_cut.specs.declared.ends.Cut.{Cut}
+use Rattle.block_cut.specs.Blocks.{last_of, block_of, cut_of, follow_of}
+use Rattle.flow_graph.specs.declared.error.TheConstants.{MAX_BLOCKS}
 
 -- ---- starts, from edges that count
 
@@ -28,6 +19,7 @@ abbrev pub Leads : Exe → ℕ → ℕ → ℕ → Type 0
 Leads exe zero s t = s ≡ t
 Leads exe (suc n) s t = (u : ℕ) × Leads exe n s u × (follow_of exe u ≡ Some t)
 
+-- some following starts lead from s to t
 abbrev pub IsReached : Exe → ℕ → ℕ → Type 0
 IsReached exe s t = (n : ℕ) × Leads exe n s t
 
@@ -37,13 +29,14 @@ pub record IsStart (exe : Exe) (es : List Edge) (s : ℕ) : Type 0 where
   pub traced : Contains es edge
   pub reached : IsReached exe edge.1 s
 
+-- a list has the starts, ascending
 pub record AreStarts (exe : Exe) (es : List Edge) (starts : List ℕ) : Type 0 where
   pub ascend : IsStrictlyIncreasing starts
   pub each : (s : ℕ) → Contains starts s ↔ IsStart exe es s
 
--- there are more than 65536
+-- there are more starts than a graph may have
 abbrev pub HasTooMany : Exe → List Edge → Type 0
-HasTooMany exe es = (xs : List ℕ) × IsStrictlyIncreasing xs × (65536 < length xs) × All (IsStart exe es) xs
+HasTooMany exe es = (xs : List ℕ) × IsStrictlyIncreasing xs × (MAX_BLOCKS < length xs) × All (IsStart exe es) xs
 
 -- a set has the target of each edge, and the following start of each of its starts
 pub record IsClosed (exe : Exe) (es : List Edge) (Has : ℕ → Type 0) : Type 0 where
@@ -57,16 +50,20 @@ pub record AreLeast (exe : Exe) (es : List Edge) : Type 0 where
 
 -- ---- known exits, from edges that count
 
+-- the targets of the edges from a site
 abbrev pub targets_from : ℕ → List Edge → List ℕ
 targets_from site es = map (λ (e : Edge). e.1) (filter (λ (e : Edge). e.0 == site) es)
 
+-- a block that ends with a transfer goes to its targets, any other to its following start
 abbrev pub known_by : End → List ℕ → List ℕ → List ℕ
 known_by Transfer targets next = targets
 known_by _ targets next = next
 
 -- the targets of a block's transfer, or its following start
 unfoldable pub known_of : Exe → List Edge → ℕ → List ℕ
-known_of exe es start = known_by (block_of exe start).end (targets_from (last_of start (block_of exe start).insts) es) (option_to_list (follow_of exe start))
+known_of exe es start =
+    let b = block_of exe start in
+    known_by b.end (targets_from (last_of start b.insts) es) (option_to_list (follow_of exe start))
 
 -- ---- graphs
 
@@ -75,9 +72,11 @@ pub record Node : Type 0 where
   pub start : ℕ
   pub known : List ℕ
 
+-- the starts of blocks
 abbrev pub starts_in : List Node → List ℕ
 starts_in g = map (λ b. b.start) g
 
+-- blocks are those of the graph, each with its known exits, ascending
 pub record IsGraph (exe : Exe) (es : List Edge) (g : List Node) : Type 0 where
   pub starts : AreStarts exe es (starts_in g)
   pub known : All (λ b. b.known ≡ known_of exe es b.start) g
@@ -90,3 +89,27 @@ AreCode exe g = All (λ b. IsTrue (is_exec b.start exe.segments)) g
 -- the block of an index
 abbrev pub node_at : List Node → ℕ → Node
 node_at g i = slice_index_or g i (record { start = 0; known = [] })
+
+-- the block of an index starts at this address
+abbrev pub StartsAt : List Node → ℕ → ℕ → Type 0
+StartsAt g i start = (i < length g) × ((node_at g i).start ≡ start)
+
+-- ---- what a graph keeps
+
+-- the edges that count, its blocks, and how far each block goes
+pub record GraphView : Type 0 where
+  pub edges : List Edge
+  pub nodes : List Node
+  pub cuts : List Cut
+
+-- how far a block goes in an executable
+abbrev pub cut_in : Exe → Node → Cut
+cut_in exe b = cut_of b.start (block_of exe b.start)
+
+-- its blocks go as far as those of this executable
+abbrev pub AreCutsOf : Exe → GraphView → Type 0
+AreCutsOf exe g = g.cuts ≡ map (cut_in exe) g.nodes
+
+-- how far the block of an index goes
+abbrev pub cut_at : GraphView → ℕ → Cut
+cut_at g i = slice_index_or g.cuts i (record { count = 0; len = 0; end = Unreadable; last = 0 })

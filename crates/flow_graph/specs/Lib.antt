@@ -1,3 +1,5 @@
+pub use Rattle.block_cut.specs.CountedEdges
 pub mod Graph
-pub mod Rows
-pub mod Made
+pub mod GraphOf
+pub mod CutStarts
+pub mod BlockRows

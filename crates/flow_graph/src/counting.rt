@@ -1,20 +1,12 @@
-//! Which edges count.
-ghost use Rattle.std.specs.Prelude.{◌≡◌, ◌≤◌, IfOk, IfErr, map, length};
+//! The edges that count, and their targets.
+ghost use Rattle.std.specs.Prelude.{◌≡◌, IfOk, map};
 ghost use Rattle.elf_read.specs.Elf.{IsGuest};
-ghost use Rattle.trace_file.specs.Edges.{Edge};
-ghost use Rattle.flow_graph.specs.Graph.{counts, counting};
+ghost use Rattle.run_model.specs.Edges.{Edge};
+ghost use Rattle.block_cut.specs.CountedEdges.{counting};
 
-use elf_read::{Exe, in_exec};
-use block_cut::leads;
+use block_cut::counts;
+use elf_read::Exe;
 use std::alloc::{AllocError, Global};
-
-#[tactic(auto, unfolding(crate::specs::Graph::counts))]
-fn counts(exe: &Exe, edge: (u32, u32)) -> bool
-    requires { IsGuest exe.now }
-    ensures { result ≡ counts exe.now edge }
-{
-    in_exec(exe, edge.1) && ((edge.0 == 0 && edge.1 == exe.entry) || leads(exe, edge.0, edge.1))
-}
 
 /// The edges that count, in their order.
 pub fn counting(

@@ -1,55 +1,63 @@
 //! Graphs.
+use crate::block_rows::{BlockRow, rows_of};
+use crate::block_starts::blocks_of;
 use crate::counting::{counting, targets};
-use crate::error::GraphError;
-use crate::rows::{Row, rows_of};
-use crate::starts::starts_of;
+use crate::error::{GraphError, MAX_BLOCKS};
+use crate::index_search::index_among;
+use block_cut::Cut;
 use elf_read::Exe;
 use std::alloc::Global;
 use std::marker::Model;
 use trace_file::Edges;
 
-/// The graph of an executable and a set of edges (docs/GRAPH.md): at most 65536 blocks. It is seen as
-/// the list of its blocks, each with its start and its known exits, both ascending.
+/// The control-flow graph of an executable and a set of edges (docs/GRAPH.md): at most [`MAX_BLOCKS`]
+/// blocks. It is seen as the edges that count, ascending, the list of its blocks, each with its start and its
+/// known exits, both ascending, and how far each block goes.
 #[derive(Drop)]
 pub struct Graph {
-    rows: Vec<Row>,
+    edges: Vec<(u32, u32)>,
+    rows: Vec<BlockRow>,
     // The targets of the edges that count, and then the following starts of blocks.
     targets: Vec<u32>,
 }
 
 impl Model for Graph {
-    ghost use Rattle.std.specs.Prelude.{List};
-    ghost use Rattle.flow_graph.specs.Graph.{Node};
-    ghost use Rattle.flow_graph.specs.Rows.{nodes_of, AreRows};
+    ghost use Rattle.flow_graph.specs.Graph.{GraphView};
+    ghost use Rattle.flow_graph.specs.BlockRows.{view_of, IsKept};
 
-    ghost Value = { List Node };
+    ghost Value = { GraphView };
 
-    ghost view = { λ g. nodes_of g.targets.items g.rows.items };
+    ghost view = { λ g. view_of g.edges.items g.targets.items g.rows.items };
 
-    ghost invariant = { λ g. AreRows g.targets.items g.rows.items };
+    ghost invariant = { λ g. IsKept g.edges.items g.targets.items g.rows.items };
 }
 
 impl Graph {
-    ghost use Rattle.std.specs.Prelude.{◌≡◌, ◌<◌, ◌≤◌, IfOk, IfErr, length};
+    ghost use Rattle.std.specs.Prelude.{◌≡◌, ℕ, ◌<◌, ◌≤◌, ◌↔◌, IfOk, IfErr, Some, length};
+    ghost use Rattle.elf_read.specs.declared.exe.Exe.{Exe};
     ghost use Rattle.elf_read.specs.Elf.{IsGuest};
-    ghost use Rattle.flow_graph.specs.Graph.{counting, IsGraph, AreCode, HasTooMany, node_at};
+    ghost use Rattle.trace_file.specs.Edges.{IsEdges};
+    ghost use Rattle.block_cut.specs.CountedEdges.{counting};
+    ghost use Rattle.flow_graph.specs.Graph.{IsGraph, AreCode, HasTooMany, StartsAt, AreCutsOf, node_at, cut_in, cut_at};
     ghost use Rattle.flow_graph.specs.declared.error.GraphError.TheVariants.{Blocks};
 
     /// The graph of an executable and edges. Its work grows with their number, and the number and length
-    /// of the blocks, times a logarithm.
+    /// of the blocks, times a logarithm. Each block is cut once.
     ///
-    /// Errors: [`GraphError::Blocks`] exactly where it would have more than 65536 blocks, and
+    /// Errors: [`GraphError::Blocks`] exactly where it would have more than [`MAX_BLOCKS`] blocks, and
     /// [`GraphError::Memory`] for want of memory.
     pub fn of(alloc: Global, exe: &Exe, edges: &Edges) -> Result<Graph, GraphError>
         requires { IsGuest exe.now }
-        ensures graph { IfOk result (IsGraph exe.now (counting exe.now edges.now)) }
-        ensures code { IfOk result (AreCode exe.now) }
-        ensures few { IfOk result (λ g. length g ≤ 65536) }
+        ensures edges { IfOk result (λ g. g.edges ≡ counting exe.now edges.now) }
+        ensures graph { IfOk result (λ g. IsGraph exe.now (counting exe.now edges.now) g.nodes) }
+        ensures cuts { IfOk result (AreCutsOf exe.now) }
+        ensures code { IfOk result (λ g. AreCode exe.now g.nodes) }
+        ensures few { IfOk result (λ g. length g.nodes ≤ MAX_BLOCKS) }
         ensures many { IfErr result (λ e. e ≡ Blocks → HasTooMany exe.now (counting exe.now edges.now)) }
     {
         let counted = counting(alloc, exe, edges.as_slice())?;
-        let starts = match starts_of(alloc, exe, counted.as_slice()) {
-            Ok(starts) => starts,
+        let blocks = match blocks_of(alloc, exe, counted.as_slice()) {
+            Ok(blocks) => blocks,
             Err(e) => return Err(e),
         };
         let mut targets = targets(alloc, counted.as_slice())?;
@@ -58,34 +66,68 @@ impl Graph {
             exe,
             counted.as_slice(),
             &mut targets,
-            starts.as_slice(),
+            blocks.as_slice(),
         )?;
-        Ok(Graph { rows, targets })
+        Ok(Graph {
+            edges: counted,
+            rows,
+            targets,
+        })
     }
 
-    /// How many blocks it has, at most 65536.
+    /// The edges that count, each by its site and its target, both addresses, ascending by the site and then
+    /// by the target.
+    pub fn edges(&self) -> &[(u32, u32)]
+        ensures value { result.now ≡ self.now.edges }
+        ensures order { IsEdges self.now.edges }
+    {
+        self.edges.as_slice()
+    }
+
+    /// How many blocks it has, 0 to [`MAX_BLOCKS`].
     pub fn len(&self) -> u32
-        ensures value { result ≡ length self.now }
-        ensures few { length self.now ≤ 65536 }
+        ensures value { result ≡ length self.now.nodes }
+        ensures few { length self.now.nodes ≤ MAX_BLOCKS }
     {
         self.rows.len() as u32
     }
 
-    /// The start of the block of an index.
+    /// The start of the block of an index below [`Graph::len`], an address. Starts ascend.
     pub fn start(&self, index: u32) -> u32
-        requires { index < length self.now }
-        ensures { result ≡ (node_at self.now index).start }
+        requires { index < length self.now.nodes }
+        ensures { result ≡ (node_at self.now.nodes index).start }
     {
         self.rows[index as usize].start
     }
 
-    /// The known exits of the block of an index, ascending: the targets of the edges that count from its
-    /// transfer, or its one following start.
+    /// The index of the block that starts at an address, or `None` where no block does. Its work grows with
+    /// the logarithm of the number of blocks.
+    pub fn index_of(&self, start: u32) -> Option<u32>
+        ensures { (i : ℕ) → (result ≡ Some i) ↔ StartsAt self.now.nodes i start }
+    {
+        match index_among(self.rows.as_slice(), start) {
+            Some(index) => Some(index as u32),
+            None => None,
+        }
+    }
+
+    /// The known exits of the block of an index below [`Graph::len`], addresses, ascending: the targets of
+    /// the edges that count from its transfer, or its one following start.
     pub fn known(&self, index: u32) -> &[u32]
-        requires { index < length self.now }
-        ensures { result.now ≡ (node_at self.now index).known }
+        requires { index < length self.now.nodes }
+        ensures { result.now ≡ (node_at self.now.nodes index).known }
     {
         let row = self.rows[index as usize];
         &self.targets[row.from as usize..row.to as usize]
+    }
+
+    /// How far the block of an index below [`Graph::len`] goes, as [`block_cut::cut`] answers for the
+    /// executable of which the graph is. Nothing is decoded.
+    pub fn cut(&self, index: u32) -> Cut
+        requires { index < length self.now.nodes }
+        ensures value { result ≡ cut_at self.now index }
+        ensures block { (exe : Exe) → AreCutsOf exe self.now → result ≡ cut_in exe (node_at self.now.nodes index) }
+    {
+        self.rows[index as usize].cut
     }
 }

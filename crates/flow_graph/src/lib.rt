@@ -1,19 +1,20 @@
-//! The graph of an executable and control-flow edges (docs/GRAPH.md).
+//! The control-flow graph of an executable and a set of edges (docs/GRAPH.md).
 #![tactic(auto)]
 
+mod block_rows;
+mod block_starts;
 mod counting;
 mod error;
-mod exits;
 mod graph;
 mod graph_law;
-mod law;
-mod rows;
-mod starts;
+mod index_search;
+mod site_search;
+mod start_law;
 
-pub use error::GraphError;
+pub use error::{GraphError, MAX_BLOCKS};
 pub use graph::Graph;
 pub use graph_law::one_graph;
-pub use law::least_starts;
+pub use start_law::least_starts;
 
 #[cfg(test)]
 mod tests;

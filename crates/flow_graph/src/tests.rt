@@ -3,6 +3,7 @@ ghost use Rattle.std.specs.Prelude.{◌≡◌, ◌<◌, ◌≤◌, IfOk, length}
 ghost use Rattle.elf_read.specs.Elf.{IsGuest};
 
 use crate::Graph;
+use block_cut::{Cut, End};
 use elf_read::{Bytes, Exe, Perms, Segment, Segments};
 use std::alloc::{AllocError, Global};
 use std::process::Abort;
@@ -59,12 +60,18 @@ fn follows_starts(rt: HostRuntime) -> Result<(), Fail> {
     Ok(())
 }
 
-#[test]
-fn knows_exits(rt: HostRuntime) -> Result<(), Fail> {
-    // jz 08048004; nop; ret; jmp eax; ret
-    let code = [0x74, 0x02, 0x90, 0xc3, 0xff, 0xe0, 0xc3];
-    let exe = with_code(rt.alloc(), &code)?;
-    let list = vec![in rt.alloc();
+/// Whether the block of an index goes so far.
+fn goes(graph: &Graph, index: u32, cut: Cut) -> bool {
+    index < graph.len() && graph.cut(index) == cut
+}
+
+/// jz 08048004; nop; ret; jmp eax; ret
+const CODE: [u8; 7] = [0x74, 0x02, 0x90, 0xc3, 0xff, 0xe0, 0xc3];
+
+/// The graph of this code and some edges.
+fn graph_of_code(rt: &impl Abort, alloc: Global) -> Result<Graph, AllocError> {
+    let exe = with_code(alloc, &CODE)?;
+    let list = vec![in alloc;
         (0, 0x0804_8000),
         // no beginning
         (0, 0x0804_8006),
@@ -80,11 +87,64 @@ fn knows_exits(rt: HostRuntime) -> Result<(), Fail> {
         // no code
         (0x0804_8004, 0x0804_8007)
     ]?;
-    let graph = Graph::of(rt.alloc(), &exe, &Edges::of_list(list)).expect(&rt, "graph");
+    Ok(Graph::of(alloc, &exe, &Edges::of_list(list)).expect(rt, "graph"))
+}
+
+#[test]
+fn knows_exits(rt: HostRuntime) -> Result<(), Fail> {
+    let graph = graph_of_code(&rt, rt.alloc())?;
     assert_eq!(rt; graph.len(), 4);
     assert!(rt; shows(&graph, 0, 0x0804_8000, &[0x0804_8002, 0x0804_8004]));
     assert!(rt; shows(&graph, 1, 0x0804_8002, &[0x0804_8000]));
     assert!(rt; shows(&graph, 2, 0x0804_8003, &[0x0804_8000]));
     assert!(rt; shows(&graph, 3, 0x0804_8004, &[0x0804_8003, 0x0804_8004]));
+    Ok(())
+}
+
+#[test]
+fn keeps_edges(rt: HostRuntime) -> Result<(), Fail> {
+    let graph = graph_of_code(&rt, rt.alloc())?;
+    let edges = [
+        (0, 0x0804_8000),
+        (0x0804_8000, 0x0804_8002),
+        (0x0804_8000, 0x0804_8004),
+        (0x0804_8003, 0x0804_8000),
+        (0x0804_8004, 0x0804_8003),
+        (0x0804_8004, 0x0804_8004),
+    ];
+    assert!(rt; graph.edges() == edges.as_slice());
+    Ok(())
+}
+
+#[test]
+fn finds_indices(rt: HostRuntime) -> Result<(), Fail> {
+    let graph = graph_of_code(&rt, rt.alloc())?;
+    assert_eq!(rt; graph.index_of(0x0804_8000), Some(0));
+    assert_eq!(rt; graph.index_of(0x0804_8002), Some(1));
+    assert_eq!(rt; graph.index_of(0x0804_8003), Some(2));
+    assert_eq!(rt; graph.index_of(0x0804_8004), Some(3));
+    assert_eq!(rt; graph.index_of(0x0804_8001), None);
+    assert_eq!(rt; graph.index_of(0x0804_8005), None);
+    assert_eq!(rt; graph.index_of(0), None);
+    Ok(())
+}
+
+/// A block that ends with a transfer.
+fn to_transfer(count: u8, len: u32, last: u32) -> Cut {
+    Cut {
+        count,
+        len,
+        end: End::Transfer,
+        last,
+    }
+}
+
+#[test]
+fn keeps_cuts(rt: HostRuntime) -> Result<(), Fail> {
+    let graph = graph_of_code(&rt, rt.alloc())?;
+    assert!(rt; goes(&graph, 0, to_transfer(1, 2, 0x0804_8000)));
+    assert!(rt; goes(&graph, 1, to_transfer(2, 2, 0x0804_8003)));
+    assert!(rt; goes(&graph, 2, to_transfer(1, 1, 0x0804_8003)));
+    assert!(rt; goes(&graph, 3, to_transfer(1, 2, 0x0804_8004)));
     Ok(())
 }

@@ -1,4 +1,3 @@
 pub mod Places
 pub mod Numbers
 pub mod Heaps
-pub mod Shapes

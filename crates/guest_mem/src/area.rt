@@ -10,9 +10,11 @@ use elf_read::Segment;
 use std::alloc::{AllocError, Global};
 use std::marker::Model;
 
-const STACK_START: u32 = 0xBFF0_0000;
+/// Where the stack starts; it ends at 0xC0000000.
+pub const STACK_START: u32 = 0xBFF0_0000;
 
-const STACK_SIZE: usize = 1_048_576;
+/// How many bytes the stack has.
+pub const STACK_SIZE: usize = 1_048_576;
 
 /// The number of bytes of an operand.
 pub fn size(w: Width) -> usize
@@ -25,7 +27,7 @@ pub fn size(w: Width) -> usize
     }
 }
 
-// Cuts the bytes at a size, or fills them up with zeros to it.
+/// Cuts the bytes at a size, or fills them up with zeros to it.
 fn resize(bytes: &mut Vec<u8>, size: usize) -> Result<(), AllocError>
     ensures ok { OnOk result (bytes.new.items ≡ take size (bytes.old.items ++ zeros size)) }
     ensures err { OnErr result (bytes.new.items ≡ bytes.old.items) }
@@ -34,6 +36,7 @@ fn resize(bytes: &mut Vec<u8>, size: usize) -> Result<(), AllocError>
     bytes.resize(size, 0)
 }
 
+/// A region of the guest's memory: where it starts, what may be done there, and its bytes.
 #[derive(Drop)]
 pub struct Area {
     start: u32,
@@ -67,7 +70,7 @@ impl Area {
 
     /// The stack, which ends with `top` and is zero below it.
     pub fn stack(alloc: Global, top: &[u8]) -> Result<Area, AllocError>
-        requires { length top.now ≤ 1048576 }
+        requires { length top.now ≤ STACK_SIZE }
         ensures { IfOk result (λ r. r ≡ stack_region top.now) }
     {
         let mut bytes = Vec::with_capacity(alloc, STACK_SIZE)?;
@@ -99,6 +102,7 @@ impl Area {
         }
     }
 
+    /// What may be done with the bytes.
     pub fn perms(&self) -> Perms
         ensures { result ≡ self.now.perms }
     {

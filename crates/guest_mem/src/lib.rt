@@ -4,4 +4,5 @@
 mod area;
 mod memory;
 
-pub use memory::Memory;
+pub use area::{STACK_SIZE, STACK_START};
+pub use memory::{HEAP_LIMIT, INSTRUCTION_LIMIT, Memory};

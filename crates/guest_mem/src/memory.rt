@@ -9,23 +9,23 @@ ghost use Rattle.elf_read.specs.Regions.{opening_regions};
 ghost use Rattle.guest_mem.specs.Layout.{is_usable};
 ghost use Rattle.guest_mem.specs.View.{with_regions, fetched, with_break};
 
-use crate::area::{Area, size};
+use crate::area::{Area, STACK_SIZE, size};
 use br_word::Width;
 use elf_read::Exe;
 use std::alloc::{AllocError, Global};
 use std::marker::Model;
 
 /// How far the heap may grow, in bytes.
-const MOST_HEAP: u32 = 67_108_864;
+pub const HEAP_LIMIT: u32 = 67_108_864;
 
 /// The most bytes of an instruction (SDM volume 2, 2.3.11).
-const LONGEST: usize = 15;
+pub const INSTRUCTION_LIMIT: usize = 15;
 
 /// The memory of a guest: its segments, its stack and its heap, which lies from the start of the
 /// break to the break.
 #[derive(Drop)]
 pub struct Memory {
-    // The segments in ascending order, the stack, the heap.
+    /// The segments in ascending order, the stack, the heap.
     areas: Vec<Area>,
     brk_start: u32,
     brk: u32,
@@ -43,12 +43,16 @@ impl Model for Memory {
 }
 
 impl Memory {
-    /// The memory in which a guest begins. The stack ends with `top` and is zero below it, and the heap
-    /// is empty.
+    /// The memory in which a guest begins. The stack ends with `top`, of at most [`STACK_SIZE`] bytes, and is
+    /// zero below it, and the heap is empty. The only error is want of memory.
     pub fn of(alloc: Global, exe: &Exe, top: &[u8]) -> Result<Memory, AllocError>
         requires guest { IsGuest exe.now }
-        requires room { length top.now ≤ 1048576 }
-        ensures { IfOk result (λ m. m ≡ record { regions = opening_regions exe.now top.now; brk_start = exe.now.brk_start; brk = exe.now.brk_start }) }
+        requires room { length top.now ≤ STACK_SIZE }
+        ensures { IfOk result (λ m. m ≡ record {
+          regions = opening_regions exe.now top.now;
+          brk_start = exe.now.brk_start;
+          brk = exe.now.brk_start;
+        }) }
     {
         let mut areas = Vec::new(alloc);
         for segment in exe.segments.as_slice() {
@@ -63,7 +67,7 @@ impl Memory {
         })
     }
 
-    // The place of the region to which a read goes.
+    /// The place of the region to which a read goes.
     fn read_place(&self, at: u32, len: usize) -> Option<usize>
         ensures { result ≡ position (is_usable Reads at len) self.now.regions }
     {
@@ -72,7 +76,7 @@ impl Memory {
             .position(|area| area.covers(at, len) && area.perms().read)
     }
 
-    // The place of the region to which a write goes.
+    /// The place of the region to which a write goes.
     fn write_place(&self, at: u32, len: usize) -> Option<usize>
         ensures { result ≡ position (is_usable Writes at len) self.now.regions }
     {
@@ -81,7 +85,7 @@ impl Memory {
             .position(|area| area.covers(at, len) && area.perms().write)
     }
 
-    // The place of the executable region that holds an address.
+    /// The place of the executable region that holds an address.
     fn code_place(&self, at: u32) -> Option<usize>
         ensures { result ≡ position (is_usable Runs at 1) self.now.regions }
     {
@@ -99,7 +103,7 @@ impl Memory {
         Some(self.areas[place].number(at, w))
     }
 
-    // Copies bytes in. False, with nothing changed, where no writable region holds all of them.
+    /// Copies bytes in. False, with nothing changed, where no writable region holds all of them.
     fn write(&mut self, at: u32, from: &[u8]) -> bool
         ensures allowed { result ≡ is_some (written at from.now self.old.regions) }
         ensures after { self.new ≡ with_regions (written at from.now self.old.regions) self.old }
@@ -124,9 +128,9 @@ impl Memory {
     }
 
     /// Fetches the bytes from an address to the end of its executable region, the first 15 of them at
-    /// most, and answers how many: 0 exactly where no executable region holds the address. The rest of
+    /// most ([`INSTRUCTION_LIMIT`]), and answers how many: 0 exactly where no executable region holds the address. The rest of
     /// `into` stays.
-    pub fn fetch(&self, at: u32, into: &mut [u8; 15]) -> u8
+    pub fn fetch(&self, at: u32, into: &mut [u8; INSTRUCTION_LIMIT]) -> u8
         ensures count { result ≡ length (fetched (bytes_at Runs at 1 self.now.regions)) }
         ensures bytes { into.new ≡ fetched (bytes_at Runs at 1 self.now.regions) ++ drop result into.old }
         ensures none { (result ≡ 0) ↔ (bytes_at Runs at 1 self.now.regions ≡ None) }
@@ -135,7 +139,7 @@ impl Memory {
             None => 0,
             Some(place) => {
                 let area = &self.areas[place];
-                let count = area.left(at).min(LONGEST);
+                let count = area.left(at).min(INSTRUCTION_LIMIT);
                 area.copy_out(at, &mut into[..count]);
                 count as u8
             }
@@ -175,7 +179,7 @@ impl Memory {
         self.write(at, from);
     }
 
-    /// Moves the break, unless it would leave the 67108864 bytes from its start, and answers the break
+    /// Moves the break, unless it would leave the [`HEAP_LIMIT`] bytes from its start, and answers the break
     /// afterwards. The bytes that come are zero. Only a break that rises takes memory, and after an error
     /// all is as before.
     pub fn set_break(&mut self, to: u32) -> Result<u32, AllocError>
@@ -184,7 +188,7 @@ impl Memory {
         ensures err { OnErr result (self.new ≡ self.old) }
         ensures rises { OnErr result (self.old.brk < to) }
     {
-        if to < self.brk_start || to - self.brk_start > MOST_HEAP {
+        if to < self.brk_start || to - self.brk_start > HEAP_LIMIT {
             return Ok(self.brk);
         }
         let heap = self.areas.len() - 1;

@@ -4,8 +4,7 @@ use Rattle.br_word.specs.Words.{bit}
 use Rattle.br_word.specs.State.{State, Running}
 use Rattle.ia_inst.specs.Canonical.{valid_of}
 use Rattle.ia_inst.specs.System.{system}
-use Rattle.ia_inst.specs.Step.{Found, NoCode, NoInst, There, result_at, settled, asked_at}
-use Rattle.ia_meaning.specs.Effect.{some_unmarked}
+use Rattle.ia_inst.specs.Step.{Found, NoCode, NoInst, There, result_at, settled, asked_at, some_unmarked}
 use Rattle.guest_sys.specs.declared.answers.SysError.{SysError}
 use Rattle.br_outside.specs.Streams.{Tells}
 use Rattle.guest_sys.specs.Machine.{Machine, state_of, fed, bare}
@@ -30,6 +29,7 @@ pub record Expected : Type 0 where
   pub undefined : ℕ
   pub trap : Bool
 
+-- the step was done as expected
 pub record Advances (s : State) (x : Expected) (a : Advanced) (old new : Machine) : Type 0 where
   pub stop : a.stop ≡ answer_of x.after.stop
   pub edge : a.edge ≡ x.edge
@@ -40,6 +40,7 @@ pub record Advances (s : State) (x : Expected) (a : Advanced) (old new : Machine
   pub streams : Passes x.after more old.streams new.streams
   pub idle : asks_by x.trap s ≡ 0 → new.streams.input ≡ old.streams.input
 
+-- the step failed, at a system call
 pub record AdvanceFails (e : SysError) (s : State) (x : Expected) (old new : Machine) : Type 0 where
   pub trap : IsTrue x.trap
   pub call : IsTrue (takes_memory s)
@@ -47,6 +48,7 @@ pub record AdvanceFails (e : SysError) (s : State) (x : Expected) (old new : Mac
   pub memory : new.memory ≡ old.memory
   pub streams : FailsAt e s x.after old.streams new.streams
 
+-- by the answer
 abbrev pub AdvanceGives : Result Advanced SysError → State → Expected → Machine → Machine → Type 0
 AdvanceGives (Ok a) s x old new = Advances s x a old new
 AdvanceGives (Err e) s x old new = AdvanceFails e s x old new
@@ -80,7 +82,9 @@ of_call next s = record { after = settled (system next s) s; edge = None; undefi
 pub record Trap (at : ℕ) (result : Result Advanced SysError) (old new : Machine) : Type 0 where
   pub left : List ℕ
   pub told : Tells left old.streams.input
-  pub gives : AdvanceGives result (fed left (state_of (record (old.cpu) { eip = at }) old.memory)) (of_call old.cpu.eip (fed left (state_of (record (old.cpu) { eip = at }) old.memory))) (record old { cpu = record (old.cpu) { eip = at } }) new
+  pub gives : AdvanceGives result (fed left (state_of (record (old.cpu) { eip = at }) old.memory))
+      (of_call old.cpu.eip (fed left (state_of (record (old.cpu) { eip = at }) old.memory)))
+      (record old { cpu = record (old.cpu) { eip = at } }) new
 
 -- the edge from an address to another, if there is one
 abbrev pub edge_if : Bool → ℕ → ℕ → Option Edge

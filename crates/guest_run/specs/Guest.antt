@@ -4,8 +4,7 @@ use Rattle.br_word.specs.Words.{bit}
 use Rattle.br_word.specs.State.{State, RunState, Running, Exited, Faulted}
 use Rattle.ia_inst.specs.declared.inst.Inst.{Inst}
 use Rattle.ia_inst.specs.declared.inst.Inst.TheVariants.{Int80}
-use Rattle.ia_inst.specs.Step.{Found, NoCode, NoInst, There, found, step, asked_at}
-use Rattle.ia_meaning.specs.Effect.{some_unmarked}
+use Rattle.ia_inst.specs.Step.{Found, NoCode, NoInst, There, found, step, asked_at, some_unmarked}
 use Rattle.br_outside.specs.Outside.{StreamView}
 use Rattle.guest_sys.specs.declared.answers.SysError.{SysError}
 use Rattle.guest_sys.specs.declared.answers.SysError.TheVariants.{Input, Out, Report, Memory}
@@ -21,6 +20,7 @@ use Rattle.run_model.specs.Run.{run}
 use Rattle.run_model.specs.Opening.{arguments, opening}
 use Rattle.elf_read.specs.declared.exe.Exe.{Exe}
 
+-- a guest is seen as its state and how far it has come
 pub record GuestView : Type 0 where
   -- the state without its streams
   pub state : State
@@ -32,14 +32,17 @@ pub record GuestView : Type 0 where
   -- no step has failed
   pub live : Bool
 
+-- the input and the outputs of descriptors 1 and 2
 abbrev pub streams : StreamView → StreamView → StreamView → Streams
 streams i o e = record { input = i; out = o; err = e }
 
+-- how a guest stands, as its state has it
 abbrev pub stop_of : answer.Stop → RunState
 stop_of answers.Budget = Running
 stop_of (answers.Exited status) = Exited status
 stop_of (answers.Fault f) = Faulted f
 
+-- a guest by its parts
 abbrev pub view_of : Cpu → MemoryView → answer.Stop → ℕ → Option Edge → Bool → GuestView
 view_of u m stop steps edge live = record {
   state = record (state_of u m) { stop = stop_of stop };
@@ -59,6 +62,7 @@ beginning exe words = record {
   live = true;
 }
 
+-- the edge of a step, which has at most one
 abbrev pub first_edge : List Edge → Option Edge
 first_edge [] = None
 first_edge (e ∷ es) = Some e
@@ -67,10 +71,12 @@ first_edge (e ∷ es) = Some e
 abbrev pub reads_undefined : State → Bool
 reads_undefined s = some_unmarked (asked_at (found s.eip s.regions) s) s.cpu.marks
 
+-- int 0x80 calls the system, and nothing else does
 abbrev pub is_trap : Inst → Bool
 is_trap Int80 = true
 is_trap _ = false
 
+-- what was found is int 0x80
 abbrev pub traps_at : Found → Bool
 traps_at NoCode = false
 traps_at NoInst = false
@@ -80,6 +86,7 @@ traps_at (There i n) = is_trap i
 abbrev pub traps : State → Bool
 traps s = traps_at (found s.eip s.regions)
 
+-- how many bytes a step asks of the input, if it is a system call
 abbrev pub asks_by : Bool → State → ℕ
 asks_by true s = asks s
 asks_by false s = 0
@@ -105,6 +112,7 @@ stepped g s c t = record {
   live = true;
 }
 
+-- a step from s was done
 pub record StepDone (s : State) (c : ℕ) (g h : GuestView) (before after : Streams) : Type 0 where
   pub running : s.stop ≡ Running
   pub guest : h ≡ stepped g s c (step s c)
@@ -121,11 +129,13 @@ pub record StepFailed (e : SysError) (s : State) (c : ℕ) (g h : GuestView) (be
   pub guest : h ≡ record g { live = false }
   pub streams : FailsAt e s (step s c) before after
 
+-- a guest that has stopped takes no step
 pub record NoStep (s : State) (g h : GuestView) (before after : Streams) : Type 0 where
   pub stopped : s.stop ≡ Running → ⊥
   pub guest : h ≡ g
   pub streams : after ≡ before
 
+-- by the answer
 abbrev pub StepGives : Result Bool SysError → State → ℕ → GuestView → GuestView → Streams → Streams → Type 0
 StepGives (Ok true) s c g h before after = StepDone s c g h before after
 StepGives (Ok false) s c g h before after = NoStep s g h before after
@@ -139,6 +149,7 @@ pub record StepCall (result : Result Bool SysError) (c : ℕ) (g h : GuestView) 
 
 -- ---- a run
 
+-- one thing for a guest that runs, another for one that has stopped
 abbrev pub while_running : {A : Type 0} → RunState → A → A → A
 while_running Running go stay = go
 while_running (Exited n) go stay = stay
@@ -159,11 +170,13 @@ abbrev pub edge_after : ℕ → State → Option Edge → Option Edge
 edge_after zero s e = e
 edge_after (suc n) s e = while_running s.stop (edge_after n (step s 0) (first_edge (edge_of s.stop s 0))) e
 
+-- how a guest stands, as a call answers it
 abbrev pub answer_of : RunState → answer.Stop
 answer_of Running = answers.Budget
 answer_of (Exited status) = answers.Exited status
 answer_of (Faulted f) = answers.Fault f
 
+-- no step failed: n were taken, or fewer, and then the guest has stopped
 pub record RunDone (result : answer.Stop) (n : ℕ) (s : State) (g h : GuestView) (before after : Streams) : Type 0 where
   pub answer : result ≡ answer_of (run n s []).stop
   pub state : h.state ≡ bare (run n s [])
@@ -180,16 +193,21 @@ pub record PartGiven (first all : List ℕ) (old new : StreamView) : Type 0 wher
   pub least : length first ≤ written
   pub given : WasGiven (take written all) old new
 
+-- a sink was given these bytes, and is steady
 pub record Unchanged (bytes : List ℕ) (old new : StreamView) : Type 0 where
   pub given : WasGiven bytes old new
   pub steady : Steady old new
 
 -- a run failed in the step from u to v
 abbrev pub RunFailsAt : SysError → State → State → Streams → Streams → Type 0
-RunFailsAt Input u v before after = ((n : ℕ) × (n < asks u) × HasLeft (drop n u.input) before.input after.input) × Fails before.input after.input × Gains u.out before.out after.out × Gains u.err before.err after.err
-RunFailsAt Out u v before after = PartGiven u.out v.out before.out after.out × Fails before.out after.out × Leaves u.input before.input after.input × Gains u.err before.err after.err
-RunFailsAt Report u v before after = PartGiven u.err v.err before.err after.err × Fails before.err after.err × Leaves u.input before.input after.input × Gains u.out before.out after.out
-RunFailsAt Memory u v before after = ((n : ℕ) × (n ≤ asks u) × Leaves (drop n u.input) before.input after.input) × Unchanged u.out before.out after.out × Unchanged u.err before.err after.err
+RunFailsAt Input u v before after = ((n : ℕ) × (n < asks u) × HasLeft (drop n u.input) before.input after.input)
+    × Fails before.input after.input × Gains u.out before.out after.out × Gains u.err before.err after.err
+RunFailsAt Out u v before after = PartGiven u.out v.out before.out after.out × Fails before.out after.out
+    × Leaves u.input before.input after.input × Gains u.err before.err after.err
+RunFailsAt Report u v before after = PartGiven u.err v.err before.err after.err × Fails before.err after.err
+    × Leaves u.input before.input after.input × Gains u.out before.out after.out
+RunFailsAt Memory u v before after = ((n : ℕ) × (n ≤ asks u) × Leaves (drop n u.input) before.input after.input)
+    × Unchanged u.out before.out after.out × Unchanged u.err before.err after.err
 
 -- the step after the first `done` steps failed
 pub record RunFailed (e : SysError) (n : ℕ) (s : State) (g h : GuestView) (before after : Streams) : Type 0 where
@@ -200,12 +218,14 @@ pub record RunFailed (e : SysError) (n : ℕ) (s : State) (g h : GuestView) (bef
   pub steps : h.steps ≡ g.steps + done
   pub streams : RunFailsAt e (run done s []) (step (run done s []) 0) before after
 
+-- by the answer
 abbrev pub RunGives : Result answer.Stop SysError → ℕ → State → GuestView → GuestView → Streams → Streams → Type 0
 RunGives (Ok result) n s g h before after = RunDone result n s g h before after
 RunGives (Err e) n s g h before after = RunFailed e n s g h before after
 
 -- ---- what holds of a run whether or not the input tells
 
+-- no count of faults has changed
 pub record AllSteady (before after : Streams) : Type 0 where
   pub input : Steady before.input after.input
   pub out : Steady before.out after.out
@@ -226,11 +246,13 @@ pub record RunEnded (result : answer.Stop) (n : ℕ) (g h : GuestView) (before a
   pub all : h.state.stop ≡ Running → h.steps ≡ g.steps + n
   pub streams : AllSteady before after
 
+-- a run that failed
 pub record RunBroken (e : SysError) (n : ℕ) (g h : GuestView) (before after : Streams) : Type 0 where
   pub live : h.live ≡ false
   pub most : h.steps < g.steps + n
   pub streams : OneFails e before after
 
+-- by the answer
 abbrev pub EndGives : Result answer.Stop SysError → ℕ → GuestView → GuestView → Streams → Streams → Type 0
 EndGives (Ok result) n g h before after = RunEnded result n g h before after
 EndGives (Err e) n g h before after = RunBroken e n g h before after

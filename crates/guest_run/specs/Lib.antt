@@ -1,2 +1,4 @@
 pub mod Guest
 pub mod Advance
+pub mod BoundedRun
+pub mod InputUse

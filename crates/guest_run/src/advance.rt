@@ -1,6 +1,5 @@
 //! One step of a guest that runs, on its processor and its memory.
-ghost use Rattle.std.specs.Prelude.{◌≡◌, ◌<◌, ◌-◌, ◌^◌, IsTrue, IfSome, Some, None};
-ghost use Rattle.ia_inst.specs.Instructions.{decode_of};
+ghost use Rattle.std.specs.Prelude.{◌≡◌, ◌<◌, ◌-◌, ◌^◌, IsTrue, Some, None};
 ghost use Rattle.ia_inst.specs.Canonical.{valid_of};
 ghost use Rattle.ia_inst.specs.Step.{There, found};
 ghost use Rattle.guest_sys.specs.Machine.{machine};
@@ -11,7 +10,7 @@ use crate::stop::Stop;
 use br_outside::{Sink, Source};
 use guest_mem::Memory;
 use guest_sys::{Called, SysError, system};
-use ia_decode::decode;
+use ia_decode::{decode, fifteen_bytes_decide};
 use ia_inst::{GuestFault, Inst, Kind, kind};
 use ia_meaning::{Cpu, Outcome, execute};
 use std::alloc::Global;
@@ -30,28 +29,23 @@ pub enum Code {
 /// What a step comes to: how the guest stands, and the edge of the step.
 #[derive(Clone, Copy, Debug, PartialEq, Eq)]
 pub struct Advanced {
+    /// How the guest stands: `Budget` while it runs.
     pub stop: Stop,
+    /// The site and the target of a transfer that did not fault.
     pub edge: Option<(u32, u32)>,
-}
-
-/// The instruction with which bytes begin, and its length.
-fn instruction(bytes: &[u8]) -> Option<(Inst, u8)>
-    ensures listed { result ≡ decode_of bytes.now }
-    ensures valid { IfSome result (λ i. IsTrue (valid_of i.0)) }
-{
-    decode(bytes)
 }
 
 /// What stands at an address.
 fn code_at(memory: &Memory, at: u32) -> Code
     ensures { IsFound (found at memory.now.regions) result }
 {
+    fifteen_bytes_decide();
     let mut bytes = [0u8; 15];
     let count = memory.fetch(at, &mut bytes);
     if count == 0 {
         return Code::Missing;
     }
-    match instruction(&bytes[..count as usize]) {
+    match decode(&bytes[..count as usize]) {
         None => Code::Unreadable,
         Some((inst, len)) => Code::Inst(inst, len),
     }
@@ -89,7 +83,8 @@ fn trap<I: Source, O: Sink, E: Sink>(
     out: &mut O,
     err: &mut E,
 ) -> Result<Advanced, SysError>
-    ensures { Trap at result (machine cpu.old memory.old (I.seen input.old) (O.seen out.old) (E.seen err.old)) (machine cpu.new memory.new (I.seen input.new) (O.seen out.new) (E.seen err.new)) }
+    ensures { Trap at result (machine cpu.old memory.old (I.seen input.old) (O.seen out.old) (E.seen err.old))
+        (machine cpu.new memory.new (I.seen input.new) (O.seen out.new) (E.seen err.new)) }
 {
     let stop = match system(alloc, cpu, memory, input, out, err) {
         Err(error) => {
@@ -120,7 +115,9 @@ fn carry_out<I: Source, O: Sink, E: Sink>(
 ) -> Result<Advanced, SysError>
     requires valid { IsTrue (valid_of inst.now) }
     requires room { cpu.old.undefined < 2 ^ 64 - 1 }
-    ensures { Advance (There inst.now len) result choice (machine cpu.old memory.old (I.seen input.old) (O.seen out.old) (E.seen err.old)) (machine cpu.new memory.new (I.seen input.new) (O.seen out.new) (E.seen err.new)) }
+    ensures { Advance (There inst.now len) result choice
+        (machine cpu.old memory.old (I.seen input.old) (O.seen out.old) (E.seen err.old))
+        (machine cpu.new memory.new (I.seen input.new) (O.seen out.new) (E.seen err.new)) }
 {
     let at = cpu.eip;
     match execute(inst, len, cpu, memory, choice) {
@@ -144,7 +141,9 @@ pub fn advance<I: Source, O: Sink, E: Sink>(
     err: &mut E,
 ) -> Result<Advanced, SysError>
     requires { cpu.old.undefined < 2 ^ 64 - 1 }
-    ensures { Advance (found cpu.old.eip memory.old.regions) result choice (machine cpu.old memory.old (I.seen input.old) (O.seen out.old) (E.seen err.old)) (machine cpu.new memory.new (I.seen input.new) (O.seen out.new) (E.seen err.new)) }
+    ensures { Advance (found cpu.old.eip memory.old.regions) result choice
+        (machine cpu.old memory.old (I.seen input.old) (O.seen out.old) (E.seen err.old))
+        (machine cpu.new memory.new (I.seen input.new) (O.seen out.new) (E.seen err.new)) }
 {
     match code_at(memory, cpu.eip) {
         Code::Missing => Ok(faulted(GuestFault::Access(cpu.eip))),

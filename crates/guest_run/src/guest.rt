@@ -5,6 +5,7 @@ ghost use Rattle.br_word.specs.State.{all_flags};
 ghost use Rattle.br_outside.specs.Streams.{Streams};
 ghost use Rattle.run_model.specs.Opening.{FitArguments};
 ghost use Rattle.guest_run.specs.Guest.{StepCall, Runs, beginning, streams, answer_of};
+ghost use Rattle.guest_run.specs.BoundedRun.{BoundedRun};
 
 use crate::advance::advance;
 use crate::opening::{stack_pointer, stack_top};
@@ -17,6 +18,9 @@ use guest_sys::SysError;
 use ia_meaning::Cpu;
 use std::alloc::{AllocError, Global};
 use std::marker::Model;
+
+/// How many steps a guest can take in all, over all its runs.
+pub const STEP_LIMIT: u64 = 1_000_000_000_000_000_000;
 
 /// A guest: its processor, its memory, and how far it has come.
 #[derive(Drop)]
@@ -69,7 +73,7 @@ impl Guest {
     /// The guest of an executable that is given these words: it stands at the entry, and its stack has
     /// the argument `guest` and the words (System V ABI, i386 supplement, process initialization). The
     /// only error is for want of memory.
-    #[tactic(auto, using(crate::proofs::Openings::room))]
+    #[tactic(auto, using(crate::proofs::StackRoom::room))]
     pub fn of(alloc: Global, exe: &Exe, args: &[String]) -> Result<Guest, AllocError>
         requires exe { IsGuest exe.now }
         requires args { FitArguments (map string_bytes args.now) }
@@ -148,6 +152,9 @@ impl Guest {
     /// `Report` where that object failed, `Memory` where memory ran out. The guest is then as before,
     /// but it is not live any more, and a front part of the bytes of the call may have been taken or
     /// written.
+    ///
+    /// `Input`, `Out` and `Report` leave the counts of faults of the other objects as they were, and every
+    /// other answer those of all.
     pub fn step<I: Source, O: Sink, E: Sink>(
         &mut self,
         choice: u8,
@@ -156,8 +163,9 @@ impl Guest {
         err: &mut E,
     ) -> Result<bool, SysError>
         requires live { self.old.live ≡ true }
-        requires room { self.old.steps < 10 ^ 18 }
-        ensures { StepCall result choice self.old self.new (streams (I.seen input.old) (O.seen out.old) (E.seen err.old)) (streams (I.seen input.new) (O.seen out.new) (E.seen err.new)) }
+        requires room { self.old.steps < STEP_LIMIT }
+        ensures { StepCall result choice self.old self.new (streams (I.seen input.old) (O.seen out.old) (E.seen err.old))
+            (streams (I.seen input.new) (O.seen out.new) (E.seen err.new)) }
     {
         if !is_running(self.stop) {
             return Ok(false);
@@ -187,8 +195,12 @@ impl Guest {
     /// Takes steps with the choice 0 until the guest stops, `budget` of them at most, and answers how
     /// it stands then: `Budget` exactly where it still runs, and then it has taken all of them.
     ///
+    /// The steps are those that [`step`](Guest::step) takes, over any objects; over an input that tells what
+    /// it has left they are the first steps of the run that the definition gives.
+    ///
     /// Errors are those of the step that failed. The guest is then as before that step, but it is not
-    /// live any more.
+    /// live any more. `Input`, `Out` and `Report` leave the counts of faults of the other objects as they
+    /// were, and every other answer those of all.
     pub fn run<I: Source, O: Sink, E: Sink>(
         &mut self,
         budget: u64,
@@ -197,8 +209,11 @@ impl Guest {
         err: &mut E,
     ) -> Result<Stop, SysError>
         requires live { self.old.live ≡ true }
-        requires room { self.old.steps + budget ≤ 10 ^ 18 }
-        ensures { Runs result budget self.old self.new (streams (I.seen input.old) (O.seen out.old) (E.seen err.old)) (streams (I.seen input.new) (O.seen out.new) (E.seen err.new)) }
+        requires room { self.old.steps + budget ≤ STEP_LIMIT }
+        ensures steps { BoundedRun result budget self.old self.new (streams (I.seen input.old) (O.seen out.old) (E.seen err.old))
+            (streams (I.seen input.new) (O.seen out.new) (E.seen err.new)) }
+        ensures told { Runs result budget self.old self.new (streams (I.seen input.old) (O.seen out.old) (E.seen err.old))
+            (streams (I.seen input.new) (O.seen out.new) (E.seen err.new)) }
     {
         let _live = self.live;
         for _step in 0..budget {

@@ -1,14 +1,14 @@
-//! How a run ends.
+//! How a guest stands.
 
 use br_word::GuestFault;
 
-/// How a run ends.
+/// How a guest stands after a run.
 #[derive(Clone, Copy, Debug, PartialEq, Eq)]
 pub enum Stop {
-    /// The guest has exited with this status.
+    /// It has exited with this status.
     Exited(u8),
-    /// The guest has faulted.
+    /// It has faulted.
     Fault(GuestFault),
-    /// The guest still runs.
+    /// It still runs: it has taken all the steps that it was given.
     Budget,
 }

@@ -1,5 +1,5 @@
-pub mod Access
-pub mod Puts
-pub mod Taken
-pub mod Done
-pub mod Written
+pub mod BufferAccess
+pub mod PutBytes
+pub mod TakenBytes
+pub mod DoneCalls
+pub mod WriteCalls

@@ -23,6 +23,7 @@ takes_memory s = nat_eq (eax s) 3 || (nat_eq (eax s) 4 || nat_eq (eax s) 45)
 abbrev pub after_call : State → State
 after_call s = settled (system s.eip s) s
 
+-- what a call answers that leaves the guest so
 abbrev pub answer_of : RunState → Called
 answer_of Running = Goes
 answer_of (Exited status) = Exit status
@@ -52,7 +53,7 @@ pub record Does (s t : State) (called : Called) (old new : Machine) : Type 0 whe
   pub streams : Passes t more old.streams new.streams
   pub idle : asks s ≡ 0 → new.streams.input ≡ old.streams.input
 
--- the input failed when less than what the call asks for was taken
+-- the input failed when less than what the call asks for was taken; the sinks were not called
 pub record InputFails (s : State) (before after : Streams) : Type 0 where
   pub taken : ℕ
   pub few : taken < asks s
@@ -68,7 +69,7 @@ pub record SinkFails (bytes : List ℕ) (old new : StreamView) : Type 0 where
   pub fails : Fails old new
   pub some : bytes ≡ [] → ⊥
 
--- a sink as it was, but for its count
+-- a sink as it was
 pub record Unwritten (old new : StreamView) : Type 0 where
   pub bytes : new.bytes ≡ old.bytes
   pub steady : Steady old new
@@ -82,6 +83,7 @@ pub record MemoryFails (s : State) (before after : Streams) : Type 0 where
   pub out : Unwritten before.out after.out
   pub err : Unwritten before.err after.err
 
+-- by the object that failed, and only that one; t is the state that the call would have come to
 abbrev pub FailsAt : SysError → State → State → Streams → Streams → Type 0
 FailsAt Input s t before after = InputFails s before after
 FailsAt Out s t before after = SinkFails t.out before.out after.out × (after.input ≡ before.input) × (after.err ≡ before.err)

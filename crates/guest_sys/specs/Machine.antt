@@ -7,11 +7,13 @@ use Rattle.ia_meaning.specs.declared.cpu.Cpu.{Cpu}
 use Rattle.ia_meaning.specs.Effect.{view}
 use Rattle.br_outside.specs.Streams.{Streams}
 
+-- a processor, a memory and the streams
 pub record Machine : Type 0 where
   pub cpu : Cpu
   pub memory : MemoryView
   pub streams : Streams
 
+-- the same by its parts: the input and the outputs of descriptors 1 and 2
 abbrev pub machine : Cpu → MemoryView → StreamView → StreamView → StreamView → Machine
 machine u m i o e = record { cpu = u; memory = m; streams = record { input = i; out = o; err = e } }
 

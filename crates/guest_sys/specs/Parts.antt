@@ -16,7 +16,8 @@ use Rattle.br_outside.specs.Streams.{Steady, Fails, Tells, HasLeft, Leaves, Gain
 
 -- a piece of what a source has left was taken; an empty one means that nothing is left
 abbrev pub TakesPiece : List ℕ → StreamView → StreamView → Type 0
-TakesPiece piece old new = IfSome old.bytes (λ left. (left ≡ piece ++ drop (length piece) left) × (new.bytes ≡ Some (drop (length piece) left)) × (piece ≡ [] → left ≡ []))
+TakesPiece piece old new = IfSome old.bytes (λ left. (left ≡ piece ++ drop (length piece) left)
+    × (new.bytes ≡ Some (drop (length piece) left)) × (piece ≡ [] → left ≡ []))
 
 -- a source that told has lost so many bytes
 abbrev pub HasTakenMore : ℕ → StreamView → StreamView → Type 0
@@ -24,7 +25,8 @@ HasTakenMore n old new = IfSome old.bytes (λ left. new.bytes ≡ Some (drop n l
 
 -- the list has grown by a piece, or the source failed, or memory ran out
 abbrev pub AddsPiece : ℕ → Result Bool SysError → List ℕ → List ℕ → StreamView → StreamView → Type 0
-AddsPiece room (Ok more) before after old new = (piece : List ℕ) × (after ≡ before ++ piece) × (length piece ≤ room) × (more ≡ true → 0 < length piece) × (more ≡ false → piece ≡ []) × TakesPiece piece old new × Steady old new
+AddsPiece room (Ok more) before after old new = (piece : List ℕ) × (after ≡ before ++ piece) × (length piece ≤ room)
+    × (more ≡ true → 0 < length piece) × (more ≡ false → piece ≡ []) × TakesPiece piece old new × Steady old new
 AddsPiece room (Err Input) before after old new = (new.bytes ≡ old.bytes) × Fails old new
 AddsPiece room (Err Memory) before after old new = (n : ℕ) × (n ≤ room) × HasTakenMore n old new × Steady old new
 AddsPiece room (Err e) before after old new = ⊥
@@ -35,6 +37,7 @@ pub record TakesAll (most : ℕ) (bytes left : List ℕ) (old new : StreamView) 
   pub rest : Leaves (drop (length bytes) left) old new
   pub idle : most ≡ 0 → new ≡ old
 
+-- fewer bytes than this were taken, and are lost
 pub record TakesSome (most : ℕ) (left : List ℕ) (old new : StreamView) : Type 0 where
   pub taken : ℕ
   pub few : taken < most
@@ -47,6 +50,7 @@ TakeGives most left (Err Input) old new = TakesSome most left old new × Fails o
 TakeGives most left (Err Memory) old new = TakesSome (most + 1) left old new × Steady old new
 TakeGives most left (Err e) old new = ⊥
 
+-- so many bytes are wanted of a source, with what it has left, where it tells
 pub record Takes (most : ℕ) (result : Result (List ℕ) SysError) (old new : StreamView) : Type 0 where
   pub left : List ℕ
   pub told : Tells left old
@@ -75,7 +79,7 @@ GivesBuffer (Some bytes) (Err sink_errors.Memory) old new = Unwritten old new
 abbrev pub with_eax : ℕ → Cpu → Cpu
 with_eax value u = record u { regs = set u.regs 0 value }
 
--- a write to a sink
+-- A write to a sink: it answers ecx and leaves all where the buffer may not be read, and edx behind it in eax where it may.
 abbrev pub WritesBuffer : Option (List ℕ) → Result Called SinkError → Cpu → Cpu → StreamView → StreamView → Type 0
 WritesBuffer None (Ok called) u v old new = (called ≡ Fault (Access (get_or u.regs 1 0))) × (v ≡ u) × (new ≡ old)
 WritesBuffer (Some bytes) (Ok called) u v old new = (called ≡ Goes) × (v ≡ with_eax (get_or u.regs 2 0) u) × Gains bytes old new

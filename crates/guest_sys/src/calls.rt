@@ -44,7 +44,8 @@ fn read<I: Source>(
     input: &mut I,
 ) -> Result<Called, SysError>
     requires { get_or cpu.old.regs 0 0 ≡ 3 }
-    ensures { (o e : StreamView) → Calls result (machine cpu.old m.old (I.seen input.old) o e) (machine cpu.new m.new (I.seen input.new) o e) }
+    ensures { (o e : StreamView) → Calls result (machine cpu.old m.old (I.seen input.old) o e)
+        (machine cpu.new m.new (I.seen input.new) o e) }
 {
     if cpu.regs[3] != 0 {
         return Ok(answer(cpu, BAD_DESCRIPTOR));
@@ -64,7 +65,8 @@ fn write_to<S: Sink>(
     m: &Memory,
     sink: &mut S,
 ) -> Result<Called, SinkError>
-    ensures { WritesBuffer (buffer (get_or cpu.old.regs 1 0) (get_or cpu.old.regs 2 0) m.now.regions) result cpu.old cpu.new (S.seen sink.old) (S.seen sink.new) }
+    ensures { WritesBuffer (buffer (get_or cpu.old.regs 1 0) (get_or cpu.old.regs 2 0) m.now.regions) result
+        cpu.old cpu.new (S.seen sink.old) (S.seen sink.new) }
 {
     if !give_buffer(alloc, m, cpu.regs[1], cpu.regs[2], sink)? {
         return Ok(denied(cpu));
@@ -81,7 +83,8 @@ fn write_out<O: Sink>(
 ) -> Result<Called, SysError>
     requires number { get_or cpu.old.regs 0 0 ≡ 4 }
     requires descriptor { get_or cpu.old.regs 3 0 ≡ 1 }
-    ensures { (i e : StreamView) → Calls result (machine cpu.old m.now i (O.seen out.old) e) (machine cpu.new m.now i (O.seen out.new) e) }
+    ensures { (i e : StreamView) → Calls result (machine cpu.old m.now i (O.seen out.old) e)
+        (machine cpu.new m.now i (O.seen out.new) e) }
 {
     match write_to(alloc, cpu, m, out) {
         Ok(called) => Ok(called),
@@ -99,7 +102,8 @@ fn write_err<E: Sink>(
 ) -> Result<Called, SysError>
     requires number { get_or cpu.old.regs 0 0 ≡ 4 }
     requires descriptor { get_or cpu.old.regs 3 0 ≡ 2 }
-    ensures { (i o : StreamView) → Calls result (machine cpu.old m.now i o (E.seen err.old)) (machine cpu.new m.now i o (E.seen err.new)) }
+    ensures { (i o : StreamView) → Calls result (machine cpu.old m.now i o (E.seen err.old))
+        (machine cpu.new m.now i o (E.seen err.new)) }
 {
     match write_to(alloc, cpu, m, err) {
         Ok(called) => Ok(called),
@@ -134,6 +138,9 @@ fn move_break(cpu: &mut Cpu, m: &mut Memory) -> Result<Called, SysError>
 /// Errors: `Input`, `Out` and `Report` where that object failed, `Memory` where memory ran out, which
 /// read, write and brk can meet. Then processor and memory are as before, and a front part of the
 /// bytes of the call may have been taken or written.
+///
+/// A call that is done leaves the count of faults of each object as it was, and so does `Memory`; after
+/// `Input`, `Out` and `Report` that object's count rose, and the other objects are as before.
 pub fn system<I: Source, O: Sink, E: Sink>(
     alloc: Global,
     cpu: &mut Cpu,
@@ -142,7 +149,8 @@ pub fn system<I: Source, O: Sink, E: Sink>(
     out: &mut O,
     err: &mut E,
 ) -> Result<Called, SysError>
-    ensures { Calls result (machine cpu.old m.old (I.seen input.old) (O.seen out.old) (E.seen err.old)) (machine cpu.new m.new (I.seen input.new) (O.seen out.new) (E.seen err.new)) }
+    ensures { Calls result (machine cpu.old m.old (I.seen input.old) (O.seen out.old) (E.seen err.old))
+        (machine cpu.new m.new (I.seen input.new) (O.seen out.new) (E.seen err.new)) }
 {
     match cpu.regs[0] {
         1 => Ok(Called::Exit((cpu.regs[3] % 256) as u8)),

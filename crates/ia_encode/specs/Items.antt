@@ -25,28 +25,31 @@ size_of_jump (Some c) = 6
 abbrev pub distance : ℕ → ℕ → ℕ
 distance end to = wrap (to + 2 ^ 32 - end)
 
--- how many bytes items have
+-- how many bytes an item has
 abbrev pub size_of_item : Item → ℕ
 size_of_item (item.Inst i) = length (canonical i)
 size_of_item (item.Byte b) = 1
 size_of_item (item.Jump cond d) = size_of_jump cond
 size_of_item (item.Label l) = 0
 
+-- how many bytes items have
 abbrev pub size_of_items : List Item → ℕ
 size_of_items [] = 0
 size_of_items (i ∷ is) = size_of_item i + size_of_items is
 
--- dest gives the address of each destination
+-- the bytes of an item at an address; dest gives the address of each destination
 abbrev pub bytes_of_item : (Dest → ℕ) → ℕ → Item → List ℕ
 bytes_of_item dest at (item.Inst i) = canonical i
 bytes_of_item dest at (item.Byte b) = b ∷ []
 bytes_of_item dest at (item.Jump cond d) = canonical (jump_inst cond (distance (at + size_of_jump cond) (dest d)))
 bytes_of_item dest at (item.Label l) = []
 
+-- the bytes of items, one behind another from an address on
 abbrev pub bytes_of_items : (Dest → ℕ) → ℕ → List Item → List ℕ
 bytes_of_items dest at [] = []
 bytes_of_items dest at (i ∷ is) = bytes_of_item dest at i ++ bytes_of_items dest (at + size_of_item i) is
 
+-- the item is the label of this name
 abbrev pub is_label : ℕ → Item → Bool
 is_label l (item.Label m) = nat_eq m l
 is_label l (item.Inst i) = false
@@ -114,7 +117,8 @@ Stands dest code at [] to = at ≡ to
 Stands dest code at (item.Inst i ∷ is) to = Reads code at i (length (canonical i)) × Stands dest code (at + length (canonical i)) is to
 Stands dest code at (item.Byte b ∷ is) to = HasByte code at b × Stands dest code (at + 1) is to
 Stands dest code at (item.Jump cond d ∷ is) to =
-    Reads code at (jump_inst cond (distance (at + size_of_jump cond) (dest d))) (size_of_jump cond) × Stands dest code (at + size_of_jump cond) is to
+    Reads code at (jump_inst cond (distance (at + size_of_jump cond) (dest d))) (size_of_jump cond)
+    × Stands dest code (at + size_of_jump cond) is to
 Stands dest code at (item.Label l ∷ is) to = (at ≡ dest (dests.Label l)) × Stands dest code at is to
 
 -- ---- laws
@@ -129,4 +133,6 @@ ItemsStand = (code : Region) (dest : Dest → ℕ) (at : ℕ) (items : List Item
 -- Bytes that stand as items are read as the instruction that they encode.
 abbrev pub BytesRead : Type 0
 BytesRead = (code : Region) (dest : Dest → ℕ) (bytes : List ℕ) (items : List Item) (at to : ℕ) (i : Inst) →
-    ((k : ℕ) → get_or bytes k 0 < 256) → 0 < length bytes → decode_of bytes ≡ Some (i, length bytes) → Stands dest code at (map item.Byte bytes ++ items) to → Reads code at i (length bytes)
+    ((k : ℕ) → get_or bytes k 0 < 256) → 0 < length bytes → decode_of bytes ≡ Some (i, length bytes) →
+    Stands dest code at (map item.Byte bytes ++ items) to →
+    Reads code at i (length bytes)

@@ -11,11 +11,14 @@ use ia_inst::{Addr, Rm, Width};
 /// Bytes of an instruction, from the left.
 #[derive(Clone, Copy, Debug)]
 pub struct Code {
+    /// The bytes, of which the first `length` are written.
     pub bytes: [u8; 15],
+    /// How many are written, at most 15.
     pub length: usize,
 }
 
 impl Code {
+    /// No bytes.
     pub fn new() -> Code
         ensures written { written result ≡ [] }
         ensures length { result.length ≡ 0 }
@@ -26,6 +29,7 @@ impl Code {
         }
     }
 
+    /// One byte more.
     pub fn byte(self, byte: u8) -> Code
         requires { self.length < 15 }
         ensures written { written result ≡ written self ++ byte ∷ [] }
@@ -39,6 +43,7 @@ impl Code {
         }
     }
 
+    /// Two bytes more, the lowest first.
     pub fn two(self, n: u16) -> Code
         requires { self.length < 14 }
         ensures written { written result ≡ written self ++ two n }
@@ -48,6 +53,7 @@ impl Code {
         self.byte(a).byte(b)
     }
 
+    /// Four bytes more, the lowest first.
     pub fn four(self, n: u32) -> Code
         requires { self.length < 12 }
         ensures written { written result ≡ written self ++ four n }
@@ -83,6 +89,7 @@ impl Code {
         }
     }
 
+    /// An immediate of a width.
     pub fn immediate(self, w: Width, n: u32) -> Code
         requires room { self.length < 12 }
         requires fits { IsTrue (imm_valid w n) }
@@ -96,6 +103,7 @@ impl Code {
         }
     }
 
+    /// The displacement of an address: none, one byte or four (SDM volume 2, 2.1.3).
     fn displacement(self, base: u8, disp: u32) -> Code
         requires { self.length < 12 }
         ensures written { written result ≡ written self ++ displacement base disp }
@@ -110,6 +118,7 @@ impl Code {
         }
     }
 
+    /// An address with a base register, and with an index or without (SDM volume 2, 2.1.5).
     fn based(self, reg: u8, base: u8, index: Option<(u8, u8)>, disp: u32) -> Code
         requires room { self.length < 10 }
         requires reg { reg < 8 }
@@ -137,6 +146,7 @@ impl Code {
         }
     }
 
+    /// A place in memory.
     fn memory(self, reg: u8, addr: &Addr) -> Code
         requires room { self.length < 10 }
         requires reg { reg < 8 }
@@ -178,6 +188,7 @@ pub fn fits_signed_byte(n: u32) -> bool
     n < 0x80 || 0xffff_ff7f < n
 }
 
+/// The mod field of an address with a base register: by the bytes of its displacement.
 fn mode(base: u8, disp: u32) -> u8
     ensures mode { result ≡ mode base disp }
     ensures low { result < 3 }
@@ -191,6 +202,7 @@ fn mode(base: u8, disp: u32) -> u8
     }
 }
 
+/// The scale field of a SIB byte.
 fn log(scale: u8) -> u8
     ensures log { result ≡ log scale }
     ensures low { result < 4 }
@@ -203,6 +215,7 @@ fn log(scale: u8) -> u8
     }
 }
 
+/// A ModRM or SIB byte of its three fields.
 fn fields(high: u8, middle: u8, low: u8) -> u8
     requires high { high < 4 }
     requires middle { middle < 8 }

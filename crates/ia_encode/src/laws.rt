@@ -7,6 +7,8 @@ ghost use Rattle.ia_inst.specs.declared.inst.Inst.{Inst};
 ghost use Rattle.ia_inst.specs.declared.inst.Inst.TheVariants.{Jcc, Jmp, Call};
 ghost use Rattle.ia_encode.specs.Items.{ItemsStand, BytesRead};
 
+use ia_decode::encoding_decides;
+
 /// What is written is read as the instruction, whatever bytes follow.
 pub fn round_trip()
     ensures { (i : Inst) (rest : List ℕ) → IsTrue (valid_of i) → decode_of (canonical i ++ rest) ≡ Some (i, length (canonical i)) }
@@ -28,4 +30,6 @@ pub fn items_stand()
 /// The bytes of an instruction that are put one by one are read as that instruction, whatever follows.
 pub fn bytes_read()
     ensures { BytesRead }
-{}
+{
+    encoding_decides();
+}

@@ -1,6 +1,8 @@
-use crate::encode;
+//! Spellings as a disassembler shows them, and a piece of each kind of item.
+use crate::{Dest, Item, Piece, encode};
 use ia_decode::decode;
-use ia_inst::valid;
+use ia_inst::{Inst, valid};
+use std::test::Fail;
 
 /// One spelling of each row of the table, as a disassembler shows it, and the canonical spelling of its instruction.
 const ROWS: [(&[u8], &[u8]); 55] = [
@@ -175,4 +177,27 @@ fn reads_and_writes_each_row(rt: HostRuntime) {
     for (spelling, canonical) in ROWS {
         assert!(rt; is_written(spelling, canonical), "at {spelling:?}");
     }
+}
+
+#[test]
+fn pieces_have_their_items(rt: HostRuntime) -> Result<(), Fail> {
+    let mut piece = Piece::new(rt.alloc());
+    piece.put(&Inst::Cld)?;
+    piece.put_bytes(&[0xcd, 0x80])?;
+    piece.jump(Some(4), Dest::Label(7))?;
+    piece.label(7)?;
+    piece.append(&[Item::Byte(0x90)])?;
+    let items = [
+        Item::Inst(Inst::Cld),
+        Item::Byte(0xcd),
+        Item::Byte(0x80),
+        Item::Jump {
+            cond: Some(4),
+            to: Dest::Label(7),
+        },
+        Item::Label(7),
+        Item::Byte(0x90),
+    ];
+    assert!(rt; piece.items() == items.as_slice());
+    Ok(())
 }

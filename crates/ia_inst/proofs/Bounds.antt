@@ -1,7 +1,7 @@
 -- Numbers that stay below a power of two.
-use Rattle.std.proofs.Common.{◌≡◌, ℕ, suc, ◌+◌, ◌-◌, ◌*◌, ◌/◌, ◌%◌, ◌^◌, ◌<◌, ◌≤◌, true, sym, ap, ◌∙◌, subst, arith, add-mul, mul_assoc, mul-lt-mul_of_pos_right, mul-le-mul_right, div-lt_iff_lt-mul}
+use Rattle.std.proofs.Common.{◌≡◌, ℕ, suc, ◌+◌, ◌-◌, ◌*◌, ◌/◌, ◌%◌, ◌^◌, ◌<◌, ◌≤◌, true, sym, subst, arith, mul-lt-mul_of_pos_right, mul-le-mul_right, div-lt_iff_lt-mul}
 use Rattle.std.specs.Prelude.{ℤ, pos, negsuc}
-use Rattle.std.proofs.lemmas.Nat.{mod_below, pow_pos, pow-add, shr_below, mod-mul-add, div-add-mod'}
+use Rattle.std.proofs.lemmas.Nat.{mod_below, pow_pos, pow-add, shr_below}
 use Rattle.std.proofs.lemmas.Bool.{ltb-true}
 use Rattle.br_word.specs.declared.types.Width.{Width}
 use Rattle.br_word.specs.declared.types.Width.TheVariants.{B8, B16, B32}

@@ -23,10 +23,11 @@ use Rattle.ia_inst.specs.Act.{Ends, Past, To}
 use Rattle.ia_inst.specs.Canonical.{valid_of, move_valid, test_valid, source_valid, widens, rm_valid}
 use Rattle.ia_inst.specs.Meaning.{wrap, reg_value, address_of, of_rm, to_rm, alu, Result, shifted, rotated, count_of, with_pair, pair_of, divides, muldiv, factor_of, sign_extended, is_over, no_changes, meaning}
 use Rattle.ia_inst.specs.Wide.{signed_product, quotient, signed_quotient}
-use Rattle.ia_inst.specs.Fits.{AreRegs, Fits, IsAddress}
+use Rattle.ia_inst.specs.Fits.{Fits, IsAddress}
 use Rattle.ia_inst.proofs.Bounds.{below, wrap_below, imm_small, high_below, left_below, right_below}
 use Rattle.ia_inst.proofs.ConditionCases.{either}
 use Rattle.ia_inst.proofs.OperandFits.{wrapped, set_regs, reg_with_fits, reg_small, of_rm_fits, IsSource, of_src_fits, to_rm_fits, pushed_fits, carry_fits, condition_fits, iterated_fits}
+use Rattle.br_word.specs.State.{AreRegs}
 
 -- ---- immediates
 

@@ -11,9 +11,10 @@ use Rattle.ia_inst.specs.declared.inst.Src.{Src}
 use Rattle.ia_inst.specs.declared.inst.Src.TheVariants as src
 use Rattle.ia_inst.specs.Act.{Act, Past, Again}
 use Rattle.ia_inst.specs.Meaning.{wrap, reg_value, reg_with, of_rm, of_src, to_rm, with_carry, condition, pushed, iterated}
-use Rattle.ia_inst.specs.Fits.{AreRegs, Fits, IsAddress}
+use Rattle.ia_inst.specs.Fits.{Fits, IsAddress}
 use Rattle.ia_inst.proofs.Bounds.{below}
 use Rattle.ia_inst.proofs.ConditionCases.{carry_all, condition_all}
+use Rattle.br_word.specs.State.{AreRegs}
 
 pub wrapped : (x : ℕ) → wrap x < 2 ^ 32
 wrapped x = below x 32

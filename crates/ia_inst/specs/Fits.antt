@@ -1,17 +1,12 @@
 -- What every instruction leaves in the registers, and which flags a step asks for.
-use Rattle.std.specs.Prelude.{◌≡◌, ℕ, ◌^◌, ◌<◌, Bool, List, length, get_or, IsTrue}
-use Rattle.br_word.specs.State.{State}
+use Rattle.std.specs.Prelude.{◌≡◌, ℕ, ◌^◌, ◌<◌, Bool, List, IsTrue}
+use Rattle.br_word.specs.State.{State, AreRegs}
 use Rattle.ia_inst.specs.declared.inst.Inst.{Inst}
 use Rattle.ia_inst.specs.Canonical.{valid_of}
 use Rattle.ia_inst.specs.Act.{NextEip, Past, Again, To, Act, Load, Store, Ask, Divides, Calls, Ends}
 use Rattle.ia_inst.specs.Kinds.{flags_read}
 use Rattle.ia_inst.specs.Meaning.{meaning}
 use Rattle.ia_inst.specs.Step.{There, asked_at}
-
--- eight registers of 32 bits (SDM volume 1, 3.4.1)
-pub record AreRegs (regs : List ℕ) : Type 0 where
-  pub count : length regs ≡ 8
-  pub small : (r : ℕ) → get_or regs r 0 < 2 ^ 32
 
 -- a target is an address of 32 bits
 abbrev pub IsAddress : NextEip → Type 0

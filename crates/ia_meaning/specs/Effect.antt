@@ -8,7 +8,6 @@ use Rattle.ia_inst.specs.declared.inst.Inst.{Inst}
 use Rattle.ia_inst.specs.Act.{Changes, Act, Completion, Next, Denied, Divided, Called, perform, flags_after, marks_after}
 use Rattle.ia_inst.specs.Meaning.{wrap, set_if, meaning}
 use Rattle.ia_inst.specs.Step.{next_eip}
-pub use Rattle.ia_inst.specs.Step.{some_unmarked}
 use Rattle.guest_mem.specs.View.{MemoryView}
 use Rattle.ia_meaning.specs.declared.cpu.Cpu.{Cpu}
 use Rattle.ia_meaning.specs.declared.cpu.Outcome.{Outcome}
@@ -34,6 +33,7 @@ Comes e o old m new n = ⊥
 
 -- ---- its parts
 
+-- how an act ends that was refused
 abbrev pub end_of : Refused → Completion
 end_of (refused.Access at) = Denied at
 end_of refused.Division = Divided
@@ -45,8 +45,10 @@ ends_with (Err r) go = end_of r
 
 -- whatever follows, the act goes on with what was read
 abbrev pub GoesOn : ((ℕ → Act) → Act) → Result ℕ Refused → List Region → Type 0
-GoesOn act result rs = (go : ℕ → Act) (c : ℕ) (u : state.Processor) → perform (act go) c u rs ≡ ends_with result (λ v. perform (go v) c u rs)
+GoesOn act result rs = (go : ℕ → Act) (c : ℕ) (u : state.Processor)
+    → perform (act go) c u rs ≡ ends_with result (λ v. perform (go v) c u rs)
 
+-- an act ends so where all was done, or it is refused
 abbrev pub or_ends : Result (Unit {0}) Refused → Completion → Completion
 or_ends (Ok v) e = e
 or_ends (Err r) e = end_of r
@@ -63,7 +65,8 @@ Stores (Err r) at stored old new = (stored ≡ None) × (r ≡ refused.Access at
 
 -- whatever follows, the act goes on with the registers and the memory that were written
 abbrev pub WritesAs : ((List ℕ → Act) → Act) → Result (Unit {0}) Refused → MemoryView → List ℕ → MemoryView → Type 0
-WritesAs act result m regs n = (go : List ℕ → Act) (c : ℕ) (u : state.Processor) → perform (act go) c u m.regions ≡ or_ends result (perform (go regs) c u n.regions)
+WritesAs act result m regs n = (go : List ℕ → Act) (c : ℕ) (u : state.Processor)
+    → perform (act go) c u m.regions ≡ or_ends result (perform (go regs) c u n.regions)
 
 -- whatever follows, the act asks for flags and goes on with their answer
 abbrev pub AsksFor : ((Bool → Act) → Act) → Bool → state.Processor → Type 0
@@ -71,7 +74,8 @@ AsksFor act result u = (go : Bool → Act) (c : ℕ) (rs : List Region) → perf
 
 -- what an instruction that does not trap comes to
 abbrev pub Goes : Completion → Result (Unit {0}) Refused → Cpu → MemoryView → Cpu → MemoryView → Type 0
-Goes (Next u rs to) (Ok v) old m new n = (view new ≡ u) × (new.eip ≡ next_eip to old.eip) × (new.undefined ≡ old.undefined) × (n ≡ record m { regions = rs })
+Goes (Next u rs to) (Ok v) old m new n = (view new ≡ u) × (new.eip ≡ next_eip to old.eip) × (new.undefined ≡ old.undefined)
+    × (n ≡ record m { regions = rs })
 Goes (Called k) (Ok v) old m new n = ⊥
 Goes (Denied at) (Ok v) old m new n = ⊥
 Goes Divided (Ok v) old m new n = ⊥
@@ -83,9 +87,16 @@ Does i len c result old m new n = Goes (perform (meaning i len old.regs old.eip 
 
 -- ---- flags
 
+-- the flags after changes, which are left undefined by the choice, and which of them are defined
 abbrev pub status_after : Changes → Cpu → ℕ → Status
 status_after changes u c = record { flags = flags_after changes u.flags c; known = marks_after changes u.known }
 
 -- each flag becomes a value where it is known, and is left undefined elsewhere
 abbrev pub changes_to : Flags → Flags → Changes
-changes_to known f = record { cf = set_if known.cf f.cf; pf = set_if known.pf f.pf; zf = set_if known.zf f.zf; sf = set_if known.sf f.sf; of = set_if known.of f.of }
+changes_to known f = record {
+  cf = set_if known.cf f.cf;
+  pf = set_if known.pf f.pf;
+  zf = set_if known.zf f.zf;
+  sf = set_if known.sf f.sf;
+  of = set_if known.of f.of;
+}

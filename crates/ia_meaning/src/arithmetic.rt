@@ -17,6 +17,7 @@ use br_word::{Sum, Width, add_flags, logic_flags, sub_flags};
 use guest_mem::Memory;
 use ia_inst::{Rm, Src};
 
+/// A value and the flags that logic leaves: CF and OF are clear, the others by the value (SDM volume 2, AND, OR, XOR, TEST).
 fn logic(w: Width, value: u32) -> Sum
     requires { value < 2 ^ bits_of w }
     ensures sum { of_sum result ≡ of_logic w value }
@@ -28,7 +29,7 @@ fn logic(w: Width, value: u32) -> Sum
     }
 }
 
-// ADD, OR, ADC, SBB, AND, SUB, XOR and CMP by their numbers.
+/// ADD, OR, ADC, SBB, AND, SUB, XOR and CMP by their numbers.
 fn alu_sum(op: u8, w: Width, a: u32, b: u32, carry: bool) -> Sum
     requires a_fits { a < 2 ^ bits_of w }
     requires b_fits { b < 2 ^ bits_of w }
@@ -44,14 +45,14 @@ fn alu_sum(op: u8, w: Width, a: u32, b: u32, carry: bool) -> Sum
     }
 }
 
-// CF where the operation takes it in.
+/// CF where the operation takes it in.
 fn carry_in(op: u8, cpu: &Cpu) -> bool
     ensures { AsksFor (with_carry op) result (view cpu.now) }
 {
     (op == 2 || op == 3) && cpu.flags.cf
 }
 
-// Writes a sum and sets its flags, but for CMP, which sets its flags alone.
+/// Writes a sum and sets its flags, but for CMP, which sets its flags alone.
 fn put_sum(
     op: u8,
     w: Width,
@@ -63,7 +64,10 @@ fn put_sum(
 ) -> Result<(), Refused>
     requires dst { IsTrue (rm_valid dst.now) }
     requires value { sum.now.value < 2 ^ bits_of w }
-    ensures { (r : Result) (c : ℕ) → of_sum sum.now ≡ r → Goes (perform (if op == 7 then Ends cpu.old.regs cpu.old.df r.changes (Past len) else to_rm w dst.now r.value cpu.old.regs (λ regs. Ends regs cpu.old.df r.changes (Past len))) c (view cpu.old) m.old.regions) result cpu.old m.old cpu.new m.new }
+    ensures { (r : Result) (c : ℕ) → of_sum sum.now ≡ r
+        → Goes (perform (if op == 7 then Ends cpu.old.regs cpu.old.df r.changes (Past len)
+        else to_rm w dst.now r.value cpu.old.regs (λ regs. Ends regs cpu.old.df r.changes (Past len))) c (view cpu.old) m.old.regions)
+        result cpu.old m.old cpu.new m.new }
 {
     let after = set(sum.flags);
     if op == 7 {
@@ -73,6 +77,8 @@ fn put_sum(
     finish(w, dst, sum.value, after, len, cpu, m)
 }
 
+/// ADD, OR, ADC, SBB, AND, SUB, XOR and CMP, by `op` from 0 to 7 (SDM volume 2). CF is read by ADC and SBB, before any
+/// operand; CMP writes its flags alone.
 #[tactic(auto, unfolding(ia_inst::specs::Meaning::meaning))]
 pub fn alu(
     op: u8,
@@ -94,6 +100,7 @@ pub fn alu(
     put_sum(op, w, dst, &sum, len, cpu, m)
 }
 
+/// TEST: the flags of the conjunction, which is not written (SDM volume 2).
 #[tactic(auto, unfolding(ia_inst::specs::Meaning::meaning))]
 pub fn test(
     w: Width,
@@ -113,6 +120,7 @@ pub fn test(
     Ok(())
 }
 
+/// INC: the operand and 1, with CF as it is (SDM volume 2).
 #[tactic(auto, unfolding(ia_inst::specs::Meaning::meaning))]
 pub fn inc(w: Width, dst: &Rm, len: u8, cpu: &mut Cpu, m: &mut Memory) -> Result<(), Refused>
     requires { IsTrue (rm_valid dst.now) }
@@ -123,6 +131,7 @@ pub fn inc(w: Width, dst: &Rm, len: u8, cpu: &mut Cpu, m: &mut Memory) -> Result
     finish(w, dst, sum.value, stepped(&sum, cpu), len, cpu, m)
 }
 
+/// DEC: the operand less 1, with CF as it is (SDM volume 2).
 #[tactic(auto, unfolding(ia_inst::specs::Meaning::meaning))]
 pub fn dec(w: Width, dst: &Rm, len: u8, cpu: &mut Cpu, m: &mut Memory) -> Result<(), Refused>
     requires { IsTrue (rm_valid dst.now) }
@@ -141,7 +150,7 @@ pub fn dec(w: Width, dst: &Rm, len: u8, cpu: &mut Cpu, m: &mut Memory) -> Result
     )
 }
 
-// The greatest number of a width.
+/// The greatest number of a width.
 fn greatest(w: Width) -> u32
     ensures { result ≡ 2 ^ bits_of w - 1 }
 {
@@ -152,6 +161,7 @@ fn greatest(w: Width) -> u32
     }
 }
 
+/// NOT: each bit turned over, with no flag changed (SDM volume 2).
 #[tactic(auto, unfolding(ia_inst::specs::Meaning::meaning))]
 pub fn not(w: Width, dst: &Rm, len: u8, cpu: &mut Cpu, m: &mut Memory) -> Result<(), Refused>
     requires { IsTrue (rm_valid dst.now) }
@@ -161,6 +171,7 @@ pub fn not(w: Width, dst: &Rm, len: u8, cpu: &mut Cpu, m: &mut Memory) -> Result
     finish_plain(w, dst, greatest(w) - a, len, cpu, m)
 }
 
+/// NEG: 0 less the operand; CF is clear exactly where it is 0 (SDM volume 2).
 #[tactic(auto, unfolding(ia_inst::specs::Meaning::meaning))]
 pub fn neg(w: Width, dst: &Rm, len: u8, cpu: &mut Cpu, m: &mut Memory) -> Result<(), Refused>
     requires { IsTrue (rm_valid dst.now) }

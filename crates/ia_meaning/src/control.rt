@@ -15,7 +15,7 @@ use br_word::Width;
 use guest_mem::Memory;
 use ia_inst::Rm;
 
-// A condition by its number without the lowest bit (SDM volume 1, appendix B).
+/// A condition by its number without the lowest bit (SDM volume 1, appendix B).
 fn even_condition(pair: u8, cpu: &Cpu) -> bool
     ensures { AsksFor (even_condition pair) result (view cpu.now) }
 {
@@ -32,7 +32,7 @@ fn even_condition(pair: u8, cpu: &Cpu) -> bool
     }
 }
 
-// An odd condition is the contrary of the even one before it.
+/// An odd condition is the contrary of the even one before it.
 fn condition(cond: u8, cpu: &Cpu) -> bool
     ensures { AsksFor (condition cond) result (view cpu.now) }
 {
@@ -40,6 +40,7 @@ fn condition(cond: u8, cpu: &Cpu) -> bool
     if cond % 2 == 1 { !even } else { even }
 }
 
+/// SETcc: 1 where the condition holds, else 0, in an operand of 8 bits (SDM volume 2).
 #[tactic(auto, unfolding(ia_inst::specs::Meaning::meaning))]
 pub fn setcc(cond: u8, dst: &Rm, len: u8, cpu: &mut Cpu, m: &mut Memory) -> Result<(), Refused>
     requires { IsTrue (rm_valid dst.now) }
@@ -49,7 +50,7 @@ pub fn setcc(cond: u8, dst: &Rm, len: u8, cpu: &mut Cpu, m: &mut Memory) -> Resu
     finish_plain(Width::B8, dst, holds as u32, len, cpu, m)
 }
 
-// The source is read in every case.
+/// CMOVcc: the source goes to a register where the condition holds; it is read in every case (SDM volume 2).
 #[tactic(auto, unfolding(ia_inst::specs::Meaning::meaning))]
 pub fn cmov(cond: u8, dst: u8, src: &Rm, len: u8, cpu: &mut Cpu, m: &Memory) -> Result<(), Refused>
     requires dst { dst < 8 }
@@ -65,6 +66,7 @@ pub fn cmov(cond: u8, dst: u8, src: &Rm, len: u8, cpu: &mut Cpu, m: &Memory) -> 
     Ok(())
 }
 
+/// Jcc: eip goes `rel` past the instruction where the condition holds, else just past it (SDM volume 2).
 #[tactic(auto, unfolding(ia_inst::specs::Meaning::meaning))]
 pub fn jcc(cond: u8, rel: u32, len: u8, cpu: &mut Cpu)
     ensures { (c : ℕ) (m : MemoryView) → Does (inst.Jcc cond rel) len c (Ok tt) cpu.old m cpu.new m }
@@ -74,6 +76,7 @@ pub fn jcc(cond: u8, rel: u32, len: u8, cpu: &mut Cpu)
     cpu.eip = if holds { next.wrapping_add(rel) } else { next };
 }
 
+/// JMP: eip goes `rel` past the instruction (SDM volume 2).
 #[tactic(auto, unfolding(ia_inst::specs::Meaning::meaning))]
 pub fn jmp(rel: u32, len: u8, cpu: &mut Cpu)
     ensures { (c : ℕ) (m : MemoryView) → Does (inst.Jmp rel) len c (Ok tt) cpu.old m cpu.new m }
@@ -81,6 +84,7 @@ pub fn jmp(rel: u32, len: u8, cpu: &mut Cpu)
     cpu.eip = next_of(cpu, len).wrapping_add(rel);
 }
 
+/// JMP: eip goes to the address in the operand (SDM volume 2).
 #[tactic(auto, unfolding(ia_inst::specs::Meaning::meaning))]
 pub fn jmp_rm(target: &Rm, cpu: &mut Cpu, m: &Memory) -> Result<(), Refused>
     requires { IsTrue (rm_valid target.now) }
@@ -90,6 +94,7 @@ pub fn jmp_rm(target: &Rm, cpu: &mut Cpu, m: &Memory) -> Result<(), Refused>
     Ok(())
 }
 
+/// CALL: the address past the instruction is pushed, and eip goes `rel` past it (SDM volume 2).
 #[tactic(auto, unfolding(ia_inst::specs::Meaning::meaning))]
 pub fn call(rel: u32, len: u8, cpu: &mut Cpu, m: &mut Memory) -> Result<(), Refused>
     ensures { (c : ℕ) → Does (inst.Call rel) len c result cpu.old m.old cpu.new m.new }
@@ -100,7 +105,8 @@ pub fn call(rel: u32, len: u8, cpu: &mut Cpu, m: &mut Memory) -> Result<(), Refu
     Ok(())
 }
 
-// The target is read before the stack pointer falls.
+/// CALL: the address past the instruction is pushed, and eip goes to the address in the operand, which is read before the
+/// stack pointer falls (SDM volume 2).
 #[tactic(auto, unfolding(ia_inst::specs::Meaning::meaning))]
 pub fn call_rm(target: &Rm, len: u8, cpu: &mut Cpu, m: &mut Memory) -> Result<(), Refused>
     requires { IsTrue (rm_valid target.now) }
@@ -113,6 +119,7 @@ pub fn call_rm(target: &Rm, len: u8, cpu: &mut Cpu, m: &mut Memory) -> Result<()
     Ok(())
 }
 
+/// RET: eip goes to the popped address, and esp rises by `pop` more (SDM volume 2).
 #[tactic(auto, unfolding(ia_inst::specs::Meaning::meaning))]
 pub fn ret(pop: u16, cpu: &mut Cpu, m: &Memory) -> Result<(), Refused>
     ensures { (len c : ℕ) → Does (inst.Ret pop) len c result cpu.old m.now cpu.new m.now }
@@ -123,6 +130,7 @@ pub fn ret(pop: u16, cpu: &mut Cpu, m: &Memory) -> Result<(), Refused>
     Ok(())
 }
 
+/// NOP: eip moves past the instruction (SDM volume 2).
 #[tactic(auto, unfolding(ia_inst::specs::Meaning::meaning))]
 pub fn nop(len: u8, cpu: &mut Cpu)
     ensures { (c : ℕ) (m : MemoryView) → Does inst.Nop len c (Ok tt) cpu.old m cpu.new m }

@@ -10,8 +10,11 @@ use br_word::{Flags, GuestFault};
 pub struct Cpu {
     /// eax, ecx, edx, ebx, esp, ebp, esi, edi.
     pub regs: [u32; 8],
+    /// The address of the next instruction (SDM volume 1, 3.5).
     pub eip: u32,
+    /// The status flags CF, PF, ZF, SF and OF (SDM volume 1, 3.4.3.1). Each has a value also where it is not defined.
     pub flags: Flags,
+    /// DF: strings go down (SDM volume 1, 3.4.3.2).
     pub df: bool,
     /// Which of the flags are defined.
     pub known: Flags,
@@ -30,16 +33,16 @@ pub enum Outcome {
     Fault(GuestFault),
 }
 
-// Why an instruction was not carried out.
+/// Why an instruction was not carried out.
 #[derive(Clone, Copy, Debug, PartialEq, Eq)]
 pub enum Refused {
-    // The access at this address is not allowed.
+    /// The access at this address is not allowed.
     Access(u32),
-    // The divisor is 0, or the quotient does not fit.
+    /// The divisor is 0, or the quotient does not fit.
     Division,
 }
 
-// The address after an instruction of so many bytes.
+/// The address after an instruction of so many bytes.
 pub fn next_of(cpu: &Cpu, len: u8) -> u32
     ensures { result ≡ wrap (cpu.now.eip + len) }
 {

@@ -6,8 +6,9 @@ ghost use Rattle.ia_inst.specs.Canonical.{valid_of};
 ghost use Rattle.ia_inst.specs.Kinds.{flags_read};
 ghost use Rattle.ia_inst.specs.Act.{perform};
 ghost use Rattle.ia_inst.specs.Meaning.{meaning};
+ghost use Rattle.ia_inst.specs.Step.{some_unmarked};
 ghost use Rattle.ia_inst.specs.declared.inst.Inst.TheVariants as inst;
-ghost use Rattle.ia_meaning.specs.Effect.{view, some_unmarked, Does, Comes};
+ghost use Rattle.ia_meaning.specs.Effect.{view, Does, Comes};
 
 use crate::arithmetic::{alu, dec, inc, neg, not, test};
 use crate::control::{call, call_rm, cmov, jcc, jmp, jmp_rm, nop, ret, setcc};
@@ -21,7 +22,7 @@ use br_word::{Flags, GuestFault};
 use guest_mem::Memory;
 use ia_inst::{Inst, reads_flags};
 
-// The instruction is carried out, or refused with nothing changed. A trap is left to the caller.
+/// The instruction is carried out, or refused with nothing changed. A trap is left to the caller.
 fn carry_out(i: &Inst, len: u8, cpu: &mut Cpu, m: &mut Memory, choice: u8) -> Result<(), Refused>
     requires valid { IsTrue (valid_of i.now) }
     requires no_trap { i.now ≡ inst.Int80 → ⊥ }
@@ -98,9 +99,11 @@ fn carry_out(i: &Inst, len: u8, cpu: &mut Cpu, m: &mut Memory, choice: u8) -> Re
     }
 }
 
-// Some flag of these bits is not defined.
+/// Some flag of these bits is not defined.
 fn some_undefined(bits: u8, known: &Flags) -> bool
-    ensures { result ≡ ((bits % 2 == 1) && not known.now.cf || (bits / 2 % 2 == 1) && not known.now.pf || (bits / 4 % 2 == 1) && not known.now.zf || (bits / 8 % 2 == 1) && not known.now.sf || (bits / 16 % 2 == 1) && not known.now.of) }
+    ensures { result ≡ ((bits % 2 == 1) && not known.now.cf || (bits / 2 % 2 == 1) && not known.now.pf
+        || (bits / 4 % 2 == 1) && not known.now.zf || (bits / 8 % 2 == 1) && not known.now.sf
+        || (bits / 16 % 2 == 1) && not known.now.of) }
 {
     (bits % 2 == 1 && !known.cf)
         || (bits / 2 % 2 == 1 && !known.pf)
@@ -109,7 +112,7 @@ fn some_undefined(bits: u8, known: &Flags) -> bool
         || (bits / 16 % 2 == 1 && !known.of)
 }
 
-// Some flag that the instruction reads is not defined.
+/// Some flag that the instruction reads is not defined.
 fn reads_undefined(i: &Inst, known: &Flags) -> bool
     requires { IsTrue (valid_of i.now) }
     ensures { result ≡ some_unmarked (flags_read i.now) known.now }
@@ -117,7 +120,7 @@ fn reads_undefined(i: &Inst, known: &Flags) -> bool
     some_undefined(reads_flags(i), known)
 }
 
-// Counts the step where it reads a flag that is not defined.
+/// Counts the step where it reads a flag that is not defined.
 fn count_undefined(i: &Inst, cpu: &mut Cpu)
     requires valid { IsTrue (valid_of i.now) }
     requires room { cpu.old.undefined < 2 ^ 64 - 1 }
@@ -139,7 +142,8 @@ fn count_undefined(i: &Inst, cpu: &mut Cpu)
 pub fn execute(i: &Inst, len: u8, cpu: &mut Cpu, m: &mut Memory, choice: u8) -> Outcome
     requires valid { IsTrue (valid_of i.now) }
     requires room { cpu.old.undefined < 2 ^ 64 - 1 }
-    ensures effect { Comes (perform (meaning i.now len cpu.old.regs cpu.old.eip cpu.old.df) choice (view cpu.old) m.old.regions) result cpu.old m.old cpu.new m.new }
+    ensures effect { Comes (perform (meaning i.now len cpu.old.regs cpu.old.eip cpu.old.df) choice (view cpu.old) m.old.regions)
+        result cpu.old m.old cpu.new m.new }
     ensures undefined { cpu.new.undefined ≡ cpu.old.undefined + bit (some_unmarked (flags_read i.now) cpu.old.known) }
 {
     count_undefined(i, cpu);

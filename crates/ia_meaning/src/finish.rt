@@ -14,7 +14,7 @@ use br_word::Width;
 use guest_mem::Memory;
 use ia_inst::Rm;
 
-// The flags are set, and eip moves on.
+/// The flags are set, and eip moves on.
 pub fn settle(after: Status, len: u8, cpu: &mut Cpu)
     ensures { cpu.new ≡ record cpu.old { flags = after.flags; known = after.known; eip = wrap (cpu.old.eip + len) } }
 {
@@ -23,7 +23,7 @@ pub fn settle(after: Status, len: u8, cpu: &mut Cpu)
     cpu.known = after.known;
 }
 
-// A value goes to its destination, the flags are set, and eip moves on.
+/// A value goes to its destination, the flags are set, and eip moves on.
 pub fn finish(
     w: Width,
     dst: &Rm,
@@ -35,14 +35,17 @@ pub fn finish(
 ) -> Result<(), Refused>
     requires dst { IsTrue (rm_valid dst.now) }
     requires value { v < 2 ^ bits_of w }
-    ensures { (r : Result) (c : ℕ) → v ≡ r.value → after ≡ status_after r.changes cpu.old c → Goes (perform (to_rm w dst.now r.value cpu.old.regs (λ regs. Ends regs cpu.old.df r.changes (Past len))) c (view cpu.old) m.old.regions) result cpu.old m.old cpu.new m.new }
+    ensures { (r : Result) (c : ℕ) → v ≡ r.value → after ≡ status_after r.changes cpu.old c
+        → Goes (perform (to_rm w dst.now r.value cpu.old.regs (λ regs. Ends regs cpu.old.df r.changes (Past len)))
+        c (view cpu.old) m.old.regions)
+        result cpu.old m.old cpu.new m.new }
 {
     write_rm(w, dst, v, &mut cpu.regs, m)?;
     settle(after, len, cpu);
     Ok(())
 }
 
-// The same with the flags as they are.
+/// The same with the flags as they are.
 pub fn finish_plain(
     w: Width,
     dst: &Rm,
@@ -53,7 +56,10 @@ pub fn finish_plain(
 ) -> Result<(), Refused>
     requires dst { IsTrue (rm_valid dst.now) }
     requires value { v < 2 ^ bits_of w }
-    ensures { (c : ℕ) → Goes (perform (to_rm w dst.now v cpu.old.regs (λ regs. Ends regs cpu.old.df no_changes (Past len))) c (view cpu.old) m.old.regions) result cpu.old m.old cpu.new m.new }
+    ensures { (c : ℕ)
+        → Goes (perform (to_rm w dst.now v cpu.old.regs (λ regs. Ends regs cpu.old.df no_changes (Past len)))
+        c (view cpu.old) m.old.regions)
+        result cpu.old m.old cpu.new m.new }
 {
     finish(w, dst, v, kept(cpu), len, cpu, m)
 }

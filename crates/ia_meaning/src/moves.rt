@@ -16,6 +16,7 @@ use br_word::Width;
 use guest_mem::Memory;
 use ia_inst::{Addr, Rm, Src};
 
+/// MOV: the source goes to the destination, with no flag changed (SDM volume 2).
 #[tactic(auto, unfolding(ia_inst::specs::Meaning::meaning))]
 pub fn mov(
     w: Width,
@@ -33,7 +34,7 @@ pub fn mov(
     finish_plain(w, dst, v, len, cpu, m)
 }
 
-// The low bits of a number.
+/// The low bits of a number.
 fn truncated(w: Width, v: u32) -> u32
     ensures value { result ≡ v % 2 ^ bits_of w }
     ensures fits { result < 2 ^ bits_of w }
@@ -45,6 +46,7 @@ fn truncated(w: Width, v: u32) -> u32
     }
 }
 
+/// LEA: the low bits of the address of a place, which is not read, go to a register (SDM volume 2).
 #[tactic(auto, unfolding(ia_inst::specs::Meaning::meaning))]
 pub fn lea(w: Width, dst: u8, addr: &Addr, len: u8, cpu: &mut Cpu)
     requires dst { dst < 8 }
@@ -56,6 +58,7 @@ pub fn lea(w: Width, dst: u8, addr: &Addr, len: u8, cpu: &mut Cpu)
     cpu.eip = next_of(cpu, len);
 }
 
+/// XCHG: the operand and a register change their values (SDM volume 2).
 #[tactic(auto, unfolding(ia_inst::specs::Meaning::meaning))]
 pub fn xchg(
     w: Width,
@@ -77,7 +80,7 @@ pub fn xchg(
     Ok(())
 }
 
-// A number of one width as a signed number of a wider one.
+/// A number of one width as a signed number of a wider one.
 fn extended(from: Width, to: Width, v: u32) -> u32
     requires widens { IsTrue (widens from to) }
     requires fits { v < 2 ^ bits_of from }
@@ -95,6 +98,7 @@ fn extended(from: Width, to: Width, v: u32) -> u32
     }
 }
 
+/// MOVZX and MOVSX: the operand goes to a wider register, `signed` with its sign (SDM volume 2).
 #[tactic(auto, unfolding(ia_inst::specs::Meaning::meaning))]
 pub fn extend(
     signed: bool,
@@ -118,6 +122,7 @@ pub fn extend(
     Ok(())
 }
 
+/// CWDE: ax goes to eax with its sign (SDM volume 2).
 #[tactic(auto, unfolding(ia_inst::specs::Meaning::meaning))]
 pub fn cwde(len: u8, cpu: &mut Cpu)
     ensures { (c : ℕ) (m : MemoryView) → Does inst.Cwde len c (Ok tt) cpu.old m cpu.new m }
@@ -126,6 +131,7 @@ pub fn cwde(len: u8, cpu: &mut Cpu)
     cpu.eip = next_of(cpu, len);
 }
 
+/// CDQ: each bit of edx becomes the sign of eax (SDM volume 2).
 #[tactic(auto, unfolding(ia_inst::specs::Meaning::meaning))]
 pub fn cdq(len: u8, cpu: &mut Cpu)
     ensures { (c : ℕ) (m : MemoryView) → Does inst.Cdq len c (Ok tt) cpu.old m cpu.new m }

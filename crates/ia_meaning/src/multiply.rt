@@ -17,7 +17,7 @@ use br_word::{Flags, Width};
 use guest_mem::Memory;
 use ia_inst::Rm;
 
-// CF and OF say whether a product is too large, and the other flags are left undefined.
+/// CF and OF say whether a product is too large, and the other flags are left undefined.
 fn product_status(over: bool, cpu: &Cpu, choice: u8) -> Status
     ensures { result ≡ status_after (product_changes over) cpu.now choice }
 {
@@ -38,6 +38,7 @@ fn product_status(over: bool, cpu: &Cpu, choice: u8) -> Status
     changed(known, flags, cpu, choice)
 }
 
+/// All flags are left undefined, as by a division.
 fn no_status(cpu: &Cpu, choice: u8) -> Status
     ensures { result ≡ status_after all_undefined cpu.now choice }
 {
@@ -51,9 +52,12 @@ fn no_status(cpu: &Cpu, choice: u8) -> Status
     changed(none, none, cpu, choice)
 }
 
-// Puts a product into edx and eax.
+/// Puts a product into edx and eax.
 fn put_product(p: u64, over: bool, len: u8, cpu: &mut Cpu, choice: u8)
-    ensures { (n : ℕ) (big : Bool) (m : MemoryView) → p ≡ n → over ≡ big → Goes (perform (Ends (with_pair (n / 2 ^ 32) (n % 2 ^ 32) cpu.old.regs) cpu.old.df (product_changes big) (Past len)) choice (view cpu.old) m.regions) (Ok tt) cpu.old m cpu.new m }
+    ensures { (n : ℕ) (big : Bool) (m : MemoryView) → p ≡ n → over ≡ big
+        → Goes (perform (Ends (with_pair (n / 2 ^ 32) (n % 2 ^ 32) cpu.old.regs) cpu.old.df (product_changes big) (Past len))
+        choice (view cpu.old) m.regions)
+        (Ok tt) cpu.old m cpu.new m }
 {
     let after = product_status(over, cpu, choice);
     cpu.regs[0] = (p % 0x1_0000_0000) as u32;
@@ -61,9 +65,10 @@ fn put_product(p: u64, over: bool, len: u8, cpu: &mut Cpu, choice: u8)
     settle(after, len, cpu);
 }
 
-// Puts a quotient into eax and a remainder into edx.
+/// Puts a quotient into eax and a remainder into edx.
 fn put_quotient(q: Option<(u32, u32)>, len: u8, cpu: &mut Cpu, choice: u8) -> Result<(), Refused>
-    ensures { (m : MemoryView) → Goes (perform (divides q len cpu.old.regs cpu.old.df) choice (view cpu.old) m.regions) result cpu.old m cpu.new m }
+    ensures { (m : MemoryView) → Goes (perform (divides q len cpu.old.regs cpu.old.df) choice (view cpu.old) m.regions)
+        result cpu.old m cpu.new m }
 {
     match q {
         None => Err(Refused::Division),
@@ -77,15 +82,17 @@ fn put_quotient(q: Option<(u32, u32)>, len: u8, cpu: &mut Cpu, choice: u8) -> Re
     }
 }
 
+/// The number of 64 bits in edx and eax, edx above.
 fn pair(cpu: &Cpu) -> u64
     ensures { result ≡ pair_of cpu.now.regs }
 {
     cpu.regs[2] as u64 * 0x1_0000_0000 + cpu.regs[0] as u64
 }
 
-// MUL, IMUL, DIV and IDIV of edx:eax by their numbers.
+/// MUL, IMUL, DIV and IDIV of edx:eax by their numbers.
 fn muldiv_by(op: u8, b: u32, len: u8, cpu: &mut Cpu, choice: u8) -> Result<(), Refused>
-    ensures { (m : MemoryView) → Goes (perform (muldiv op b len cpu.old.regs cpu.old.df) choice (view cpu.old) m.regions) result cpu.old m cpu.new m }
+    ensures { (m : MemoryView) → Goes (perform (muldiv op b len cpu.old.regs cpu.old.df) choice (view cpu.old) m.regions)
+        result cpu.old m cpu.new m }
 {
     let a = cpu.regs[0];
     match op {
@@ -103,6 +110,7 @@ fn muldiv_by(op: u8, b: u32, len: u8, cpu: &mut Cpu, choice: u8) -> Result<(), R
     }
 }
 
+/// MUL, IMUL, DIV and IDIV of edx:eax by the operand, by `op` from 4 to 7 (SDM volume 2).
 #[tactic(auto, unfolding(ia_inst::specs::Meaning::meaning))]
 pub fn muldiv(
     op: u8,
@@ -119,7 +127,7 @@ pub fn muldiv(
     muldiv_by(op, b, len, cpu, choice)
 }
 
-// The first factor: the immediate, or else the destination.
+/// The first factor: the immediate, or else the destination.
 fn factor(by: Option<u32>, dst: u8, regs: &[u32; 8]) -> u32
     requires { dst < 8 }
     ensures { result ≡ factor_of by dst regs.now }
@@ -130,6 +138,7 @@ fn factor(by: Option<u32>, dst: u8, regs: &[u32; 8]) -> u32
     }
 }
 
+/// IMUL with a destination: the low 32 bits of the source times `by`, or else times the destination (SDM volume 2).
 #[tactic(auto, unfolding(ia_inst::specs::Meaning::meaning))]
 pub fn imul(
     dst: u8,

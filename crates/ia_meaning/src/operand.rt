@@ -13,7 +13,7 @@ use br_word::Width;
 use guest_mem::Memory;
 use ia_inst::{Addr, Rm, Src};
 
-// The value of a register, or of a part of one.
+/// The value of a register, or of a part of one.
 pub fn reg(regs: &[u32; 8], w: Width, r: u8) -> u32
     requires { r < 8 }
     ensures value { result ≡ reg_value w r regs.now }
@@ -32,7 +32,7 @@ pub fn reg(regs: &[u32; 8], w: Width, r: u8) -> u32
     }
 }
 
-// Puts a value into a register, or into a part of one.
+/// Puts a value into a register, or into a part of one.
 pub fn set_reg(regs: &mut [u32; 8], w: Width, r: u8, v: u32)
     requires reg { r < 8 }
     requires value { v < 2 ^ bits_of w }
@@ -58,6 +58,7 @@ pub fn set_reg(regs: &mut [u32; 8], w: Width, r: u8, v: u32)
     }
 }
 
+/// The value of a base register, 0 where there is none.
 fn base_part(regs: &[u32; 8], base: Option<u8>) -> u32
     requires { IsTrue (base_valid base) }
     ensures { result ≡ base_of base regs.now }
@@ -68,6 +69,7 @@ fn base_part(regs: &[u32; 8], base: Option<u8>) -> u32
     }
 }
 
+/// The value of an index register times its scale (1, 2, 4 or 8), 0 where there is none.
 fn index_part(regs: &[u32; 8], index: Option<(u8, u8)>) -> u64
     requires { IsTrue (index_valid index) }
     ensures value { result ≡ index_of index regs.now }
@@ -79,7 +81,7 @@ fn index_part(regs: &[u32; 8], index: Option<(u8, u8)>) -> u64
     }
 }
 
-// The address of a place in memory.
+/// The address of a place in memory.
 pub fn address(regs: &[u32; 8], a: &Addr) -> u32
     requires { IsTrue (address_valid a.now) }
     ensures { result ≡ address_of a.now regs.now }
@@ -89,7 +91,7 @@ pub fn address(regs: &[u32; 8], a: &Addr) -> u32
     ((base + index + a.disp as u64) % 0x1_0000_0000) as u32
 }
 
-// Reads from memory.
+/// Reads from memory.
 pub fn load(m: &Memory, at: u32, w: Width) -> Result<u32, Refused>
     ensures value { Loads result at (load at (size_of w) m.now.regions) }
     ensures fits { IfOk result (λ v. v < 2 ^ bits_of w) }
@@ -100,7 +102,7 @@ pub fn load(m: &Memory, at: u32, w: Width) -> Result<u32, Refused>
     }
 }
 
-// Writes to memory.
+/// Writes to memory.
 pub fn store(m: &mut Memory, at: u32, w: Width, v: u32) -> Result<(), Refused>
     ensures { Stores result at (store at (size_of w) v m.old.regions) m.old m.new }
 {
@@ -111,7 +113,7 @@ pub fn store(m: &mut Memory, at: u32, w: Width, v: u32) -> Result<(), Refused>
     }
 }
 
-// Reads an operand.
+/// Reads an operand.
 pub fn read_rm(w: Width, rm: &Rm, regs: &[u32; 8], m: &Memory) -> Result<u32, Refused>
     requires { IsTrue (rm_valid rm.now) }
     ensures value { GoesOn (of_rm w rm.now regs.now) result m.now.regions }
@@ -123,7 +125,7 @@ pub fn read_rm(w: Width, rm: &Rm, regs: &[u32; 8], m: &Memory) -> Result<u32, Re
     }
 }
 
-// Reads a source.
+/// Reads a source.
 pub fn read_src(w: Width, src: &Src, regs: &[u32; 8], m: &Memory) -> Result<u32, Refused>
     requires { IsTrue (source_valid w src.now) }
     ensures value { GoesOn (of_src w src.now regs.now) result m.now.regions }
@@ -135,7 +137,7 @@ pub fn read_src(w: Width, src: &Src, regs: &[u32; 8], m: &Memory) -> Result<u32,
     }
 }
 
-// Writes an operand. Where that is refused, nothing changes.
+/// Writes an operand. Where that is refused, nothing changes.
 pub fn write_rm(
     w: Width,
     rm: &Rm,

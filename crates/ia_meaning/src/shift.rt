@@ -17,14 +17,14 @@ use br_word::{Flags, ShiftOp, Width, shift_result};
 use guest_mem::Memory;
 use ia_inst::{Count, Rm};
 
-// A value, and the flags after it.
+/// A value, and the flags after it.
 #[derive(Clone, Copy, Debug)]
 struct Worked {
     value: u32,
     after: Status,
 }
 
-// The count modulo 32.
+/// The count modulo 32.
 fn count_of(count: &Count, regs: &[u32; 8]) -> u32
     ensures value { result ≡ count_of count.now regs.now }
     ensures fits { result < 32 }
@@ -35,7 +35,7 @@ fn count_of(count: &Count, regs: &[u32; 8]) -> u32
     }
 }
 
-// A count of 0 keeps the value and the flags.
+/// A count of 0 keeps the value and the flags.
 fn untouched(a: u32, cpu: &Cpu) -> Worked
     ensures value { result.value ≡ a }
     ensures after { result.after ≡ record { flags = cpu.now.flags; known = cpu.now.known } }
@@ -46,6 +46,7 @@ fn untouched(a: u32, cpu: &Cpu) -> Worked
     }
 }
 
+/// A shift by 0 to 31 of a value, and its flags (SDM volume 2, SAL/SAR/SHL/SHR).
 fn shifted(op: ShiftOp, w: Width, a: u32, n: u32, cpu: &Cpu, choice: u8) -> Worked
     requires a_fits { a < 2 ^ bits_of w }
     requires n_fits { n < 32 }
@@ -70,6 +71,7 @@ fn shifted(op: ShiftOp, w: Width, a: u32, n: u32, cpu: &Cpu, choice: u8) -> Work
     }
 }
 
+/// SHL, SHR and SAR by a count modulo 32 (SDM volume 2).
 #[tactic(auto, unfolding(ia_inst::specs::Meaning::meaning))]
 pub fn shift(
     op: ShiftOp,
@@ -90,7 +92,7 @@ pub fn shift(
     finish(w, dst, r.value, r.after, len, cpu, m)
 }
 
-// CF is the bit that came round last. OF is set for a count of 1 alone, and the other flags are kept.
+/// CF is the bit that came round last. OF is set for a count of 1 alone, and the other flags are kept.
 fn rotate_status(right: bool, r: u32, n: u32, cpu: &Cpu, choice: u8) -> Status
     ensures { result ≡ status_after (rotate_changes right r n) cpu.now choice }
 {
@@ -119,6 +121,7 @@ fn rotate_status(right: bool, r: u32, n: u32, cpu: &Cpu, choice: u8) -> Status
     }
 }
 
+/// A rotation by 0 to 31 of a word, and its flags (SDM volume 2, RCL/RCR/ROL/ROR).
 fn rotated(right: bool, a: u32, n: u32, cpu: &Cpu, choice: u8) -> Worked
     requires { n < 32 }
     ensures value { result.value ≡ (rotated right a n).value }
@@ -138,6 +141,7 @@ fn rotated(right: bool, a: u32, n: u32, cpu: &Cpu, choice: u8) -> Worked
     }
 }
 
+/// ROL and ROR of 32 bits by a count modulo 32 (SDM volume 2).
 #[tactic(auto, unfolding(ia_inst::specs::Meaning::meaning))]
 pub fn rotate(
     right: bool,
@@ -157,6 +161,7 @@ pub fn rotate(
     finish(Width::B32, dst, r.value, r.after, len, cpu, m)
 }
 
+/// SAHF: CF, PF, ZF and SF become bits 0, 2, 6 and 7 of ah (SDM volume 2).
 #[tactic(auto, unfolding(ia_inst::specs::Meaning::meaning))]
 pub fn sahf(len: u8, cpu: &mut Cpu)
     ensures { (c : ℕ) (m : MemoryView) → Does inst.Sahf len c (Ok tt) cpu.old m cpu.new m }

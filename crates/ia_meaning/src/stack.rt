@@ -15,7 +15,7 @@ use br_word::Width;
 use guest_mem::Memory;
 use ia_inst::{Rm, Src};
 
-// Pushes a value. Where that is refused, nothing changes.
+/// Pushes a value. Where that is refused, nothing changes.
 pub fn push_value(v: u32, regs: &mut [u32; 8], m: &mut Memory) -> Result<(), Refused>
     ensures stored { let top = wrap (get_or regs.old 4 0 + 2 ^ 32 - 4) in Stores result top (store top 4 v m.old.regions) m.old m.new }
     ensures ok { OnOk result (regs.new ≡ set regs.old 4 (wrap (get_or regs.old 4 0 + 2 ^ 32 - 4))) }
@@ -27,6 +27,7 @@ pub fn push_value(v: u32, regs: &mut [u32; 8], m: &mut Memory) -> Result<(), Ref
     Ok(())
 }
 
+/// PUSH: esp falls by 4, and the source is stored where it then points (SDM volume 2).
 #[tactic(auto, unfolding(ia_inst::specs::Meaning::meaning))]
 pub fn push(src: &Src, len: u8, cpu: &mut Cpu, m: &mut Memory) -> Result<(), Refused>
     requires { IsTrue (source_valid B32 src.now) }
@@ -38,7 +39,8 @@ pub fn push(src: &Src, len: u8, cpu: &mut Cpu, m: &mut Memory) -> Result<(), Ref
     Ok(())
 }
 
-// The address of the destination takes the stack pointer as it is after the value was popped.
+/// POP: the word at esp goes to the operand, and esp rises by 4 (SDM volume 2). The address of the destination
+/// takes the stack pointer as it is after the value was popped.
 #[tactic(auto, unfolding(ia_inst::specs::Meaning::meaning))]
 pub fn pop(dst: &Rm, len: u8, cpu: &mut Cpu, m: &mut Memory) -> Result<(), Refused>
     requires { IsTrue (rm_valid dst.now) }
@@ -53,6 +55,7 @@ pub fn pop(dst: &Rm, len: u8, cpu: &mut Cpu, m: &mut Memory) -> Result<(), Refus
     Ok(())
 }
 
+/// LEAVE: esp goes 4 past ebp, and ebp becomes what stood where it pointed (SDM volume 2).
 #[tactic(auto, unfolding(ia_inst::specs::Meaning::meaning))]
 pub fn leave(len: u8, cpu: &mut Cpu, m: &Memory) -> Result<(), Refused>
     ensures { (c : ℕ) → Does inst.Leave len c result cpu.old m.now cpu.new m.now }

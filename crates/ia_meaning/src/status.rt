@@ -9,13 +9,16 @@ ghost use Rattle.ia_meaning.specs.Effect.{status_after, changes_to};
 use crate::cpu::Cpu;
 use br_word::{Flags, Sum};
 
-// The flags and which of them are defined.
+/// The flags and which of them are defined.
 #[derive(Clone, Copy, Debug)]
 pub struct Status {
+    /// The flags.
     pub flags: Flags,
+    /// Which of them are defined.
     pub known: Flags,
 }
 
+/// Each flag set.
 const ALL: Flags = Flags {
     cf: true,
     pf: true,
@@ -24,7 +27,7 @@ const ALL: Flags = Flags {
     of: true,
 };
 
-// All flags as they are.
+/// All flags as they are.
 pub fn kept(cpu: &Cpu) -> Status
     ensures { result ≡ record { flags = cpu.now.flags; known = cpu.now.known } }
 {
@@ -34,16 +37,19 @@ pub fn kept(cpu: &Cpu) -> Status
     }
 }
 
-// All flags set.
+/// All flags set.
 pub fn set(flags: Flags) -> Status
     ensures { result ≡ record { flags = flags; known = all_flags true } }
 {
     Status { flags, known: ALL }
 }
 
-// All flags set but CF, which is as it is.
+/// All flags set but CF, which is as it is.
 pub fn stepped(sum: &Sum, cpu: &Cpu) -> Status
-    ensures { result ≡ record { flags = record sum.now.flags { cf = cpu.now.flags.cf }; known = record (all_flags true) { cf = cpu.now.known.cf } } }
+    ensures { result ≡ record {
+      flags = record sum.now.flags { cf = cpu.now.flags.cf };
+      known = record (all_flags true) { cf = cpu.now.known.cf };
+    } }
 {
     Status {
         flags: Flags {
@@ -63,7 +69,7 @@ pub fn stepped(sum: &Sum, cpu: &Cpu) -> Status
     }
 }
 
-// Bit k of the choice.
+/// Bit k of the choice.
 #[tactic(auto, unfolding(ia_inst::specs::Act::choice_bit))]
 pub fn chosen(choice: u8, k: u8) -> bool
     requires { k < 5 }
@@ -72,7 +78,7 @@ pub fn chosen(choice: u8, k: u8) -> bool
     (choice >> k) % 2 == 1
 }
 
-// The flags that are known set, and the others by the choice.
+/// The flags that are known set, and the others by the choice.
 pub fn changed(known: Flags, flags: Flags, cpu: &Cpu, choice: u8) -> Status
     ensures { result ≡ status_after (changes_to known flags) cpu.now choice }
 {
@@ -88,7 +94,7 @@ pub fn changed(known: Flags, flags: Flags, cpu: &Cpu, choice: u8) -> Status
     }
 }
 
-// A flag, or a bit of the choice where it is left undefined.
+/// A flag, or a bit of the choice where it is left undefined.
 pub fn either(known: bool, flag: bool, choice: bool) -> bool
     ensures { result ≡ flag_after (set_if known flag) flag choice }
 {

@@ -12,7 +12,7 @@ use crate::operand::{load, reg, store};
 use br_word::Width;
 use guest_mem::Memory;
 
-// The next place of a string.
+/// The next place of a string.
 fn moved(df: bool, w: Width, at: u32) -> u32
     ensures { result ≡ moved df w at }
 {
@@ -28,9 +28,11 @@ fn moved(df: bool, w: Width, at: u32) -> u32
     }
 }
 
-// A repeated instruction counts ecx down, and is left where that comes to 0.
+/// A repeated instruction counts ecx down, and is left where that comes to 0.
 fn iterate(rep: bool, len: u8, cpu: &mut Cpu)
-    ensures { (c : ℕ) (regs : List ℕ) (m : MemoryView) → Goes (perform (iterated rep cpu.old.regs cpu.old.df len) c (record (view cpu.old) { regs = regs }) m.regions) (Ok tt) cpu.old m cpu.new m }
+    ensures { (c : ℕ) (regs : List ℕ) (m : MemoryView)
+        → Goes (perform (iterated rep cpu.old.regs cpu.old.df len) c (record (view cpu.old) { regs = regs }) m.regions)
+        (Ok tt) cpu.old m cpu.new m }
 {
     let next = next_of(cpu, len);
     if rep {
@@ -41,6 +43,7 @@ fn iterate(rep: bool, len: u8, cpu: &mut Cpu)
     }
 }
 
+/// MOVS, or one iteration of REP MOVS: a piece goes from esi to edi, and both move on (SDM volume 2).
 #[tactic(auto, unfolding(ia_inst::specs::Meaning::meaning))]
 pub fn movs(w: Width, rep: bool, len: u8, cpu: &mut Cpu, m: &mut Memory) -> Result<(), Refused>
     ensures { (c : ℕ) → Does (inst.Movs w rep) len c result cpu.old m.old cpu.new m.new }
@@ -59,6 +62,7 @@ pub fn movs(w: Width, rep: bool, len: u8, cpu: &mut Cpu, m: &mut Memory) -> Resu
     Ok(())
 }
 
+/// STOS, or one iteration of REP STOS: a part of eax goes to edi, which moves on (SDM volume 2).
 #[tactic(auto, unfolding(ia_inst::specs::Meaning::meaning))]
 pub fn stos(w: Width, rep: bool, len: u8, cpu: &mut Cpu, m: &mut Memory) -> Result<(), Refused>
     ensures { (c : ℕ) → Does (inst.Stos w rep) len c result cpu.old m.old cpu.new m.new }
@@ -74,6 +78,7 @@ pub fn stos(w: Width, rep: bool, len: u8, cpu: &mut Cpu, m: &mut Memory) -> Resu
     Ok(())
 }
 
+/// CLD: strings go up (SDM volume 2).
 #[tactic(auto, unfolding(ia_inst::specs::Meaning::meaning))]
 pub fn clear_direction(len: u8, cpu: &mut Cpu)
     ensures { (c : ℕ) (m : MemoryView) → Does inst.Cld len c (Ok tt) cpu.old m cpu.new m }
@@ -82,6 +87,7 @@ pub fn clear_direction(len: u8, cpu: &mut Cpu)
     cpu.eip = next_of(cpu, len);
 }
 
+/// STD: strings go down (SDM volume 2).
 #[tactic(auto, unfolding(ia_inst::specs::Meaning::meaning))]
 pub fn set_direction(len: u8, cpu: &mut Cpu)
     ensures { (c : ℕ) (m : MemoryView) → Does inst.Std len c (Ok tt) cpu.old m cpu.new m }

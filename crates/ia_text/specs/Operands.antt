@@ -24,15 +24,17 @@ digits_text B8 n = hexadecimal 2 n
 digits_text B16 n = hexadecimal 4 n
 digits_text B32 n = hexadecimal 8 n
 
+-- a number with 0x before it
 abbrev pub number_text : Width → ℕ → List ℕ
 number_text w n = codes "0x" ++ digits_text w n
 
 -- ---- addresses
 
--- behind a base or an index
+-- the displacement behind a base or an index, none where it is 0
 abbrev pub displacement_text : ℕ → List ℕ
 displacement_text d = if d == 0 then [] else codes "+" ++ number_text B32 d
 
+-- an index and its scale
 abbrev pub index_text : ℕ × ℕ → List ℕ
 index_text x = register_name B32 x.0 ++ (codes "*" ++ decimal x.1)
 
@@ -43,6 +45,7 @@ sum_text (Some b) None d = register_name B32 b ++ displacement_text d
 sum_text None (Some x) d = index_text x ++ displacement_text d
 sum_text (Some b) (Some x) d = register_name B32 b ++ (codes "+" ++ (index_text x ++ displacement_text d))
 
+-- an address
 abbrev pub address_text : Addr → List ℕ
 address_text a = codes "[" ++ (sum_text a.base a.index a.disp ++ codes "]")
 
@@ -53,10 +56,12 @@ abbrev pub place_text : Width → Rm → List ℕ
 place_text w (Reg r) = register_name w r
 place_text w (Mem a) = size_word w ++ (codes " " ++ address_text a)
 
+-- a source: a register, a place in memory, or an immediate of the width
 abbrev pub source_text : Width → Src → List ℕ
 source_text w (src.Rm a) = place_text w a
 source_text w (src.Imm n) = number_text w n
 
+-- by how much a shift goes
 abbrev pub count_text : Count → List ℕ
 count_text (count.Imm n) = number_text B8 n
 count_text count.Cl = codes "cl"

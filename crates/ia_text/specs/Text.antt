@@ -16,10 +16,12 @@ one_operand name a = name ++ (codes " " ++ a)
 abbrev pub two_operands : List ℕ → List ℕ → List ℕ → List ℕ
 two_operands name a b = name ++ (codes " " ++ (a ++ (codes ", " ++ b)))
 
+-- IMUL of two operands, or of three
 abbrev pub imul_text : ℕ → Rm → Option ℕ → List ℕ
 imul_text g a None = two_operands (codes "imul") (register_name B32 g) (place_text B32 a)
 imul_text g a (Some n) = two_operands (codes "imul") (register_name B32 g) (place_text B32 a) ++ (codes ", " ++ number_text B32 n)
 
+-- RET, with what it takes from the stack where that is not 0
 abbrev pub return_text : ℕ → List ℕ
 return_text n = if n == 0 then codes "ret" else one_operand (codes "ret") (number_text B16 n)
 
@@ -27,6 +29,7 @@ return_text n = if n == 0 then codes "ret" else one_operand (codes "ret") (numbe
 abbrev pub target_text : ℕ → ℕ → ℕ → List ℕ
 target_text at len rel = number_text B32 ((at + len + rel) % 2 ^ 32)
 
+-- a string instruction, with its repetition and the letter of its width
 abbrev pub string_text : List ℕ → Width → Bool → List ℕ
 string_text name w rep = (if rep then codes "rep " else []) ++ (name ++ size_letter w)
 

@@ -111,6 +111,7 @@ pub fn multiply_name(op: u8) -> &'static str
     }
 }
 
+/// The shifts.
 pub fn shift_name(op: ShiftOp) -> &'static str
     ensures { result.now ≡ shift_name op }
 {
@@ -121,12 +122,14 @@ pub fn shift_name(op: ShiftOp) -> &'static str
     }
 }
 
+/// The rotations, to the right or to the left.
 pub fn rotate_name(right: bool) -> &'static str
     ensures { result.now ≡ rotate_name right }
 {
     if right { "ror" } else { "rol" }
 }
 
+/// The extensions, signed or not.
 pub fn extend_name(signed: bool) -> &'static str
     ensures { result.now ≡ extend_name signed }
 {

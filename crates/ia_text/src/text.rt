@@ -110,7 +110,7 @@ fn extend(
     dst: u8,
     src: &Rm,
 ) -> Result<String, AllocError>
-    ensures { IfOk result (λ text. string_bytes text ≡ two_operands (extend_name signed) (register_name to dst) (place_text from src.now)) }
+    ensures { IfOk result (λ text. string_bytes text ≡ text_of (Inst.Extend signed from to dst src.now) 0 0) }
 {
     widened(
         alloc,
@@ -129,7 +129,7 @@ fn setcc(alloc: Global, cond: u8, dst: &Rm) -> Result<String, AllocError>
 }
 
 fn cmov(alloc: Global, cond: u8, dst: u8, src: &Rm) -> Result<String, AllocError>
-    ensures { IfOk result (λ text. string_bytes text ≡ two_operands (codes "cmov" ++ condition_name cond) (register_name B32 dst) (place_text B32 src.now)) }
+    ensures { IfOk result (λ text. string_bytes text ≡ text_of (Inst.Cmov cond dst src.now) 0 0) }
 {
     let name = conditional(alloc, "cmov", cond)?;
     let register = register_name(Width::B32, dst);

@@ -9,13 +9,16 @@ use Rattle.ia_inst.specs.Step.{Found, NoCode, NoInst, There, found, step_result,
 use Rattle.ia_inst.specs.System.{StepResult, On, Bad}
 use Rattle.run_model.specs.Opening.{guest_of, opening_of}
 
+-- Jcc, JMP, CALL and RET
 abbrev pub is_transfer_kind : Kind → Bool
 is_transfer_kind Transfer = true
 is_transfer_kind _ = false
 
+-- a transfer
 abbrev pub is_transfer : Inst → Bool
 is_transfer i = is_transfer_kind (kind_of i)
 
+-- the addresses of a transfer and of where it led
 abbrev pub Edge : Type 0
 Edge = ℕ × ℕ
 
@@ -25,6 +28,7 @@ edge_by true (On t) site = (site, t.eip) ∷ []
 edge_by true (Bad f) site = []
 edge_by false w site = []
 
+-- the edge of a step at what stands at eip: only a transfer gives one
 abbrev pub edge_at : Found → State → ℕ → List Edge
 edge_at NoCode s c = []
 edge_at NoInst s c = []
@@ -36,6 +40,7 @@ edge_of Running s c = edge_at (found s.eip s.regions) s c
 edge_of (Exited n) s c = []
 edge_of (Faulted f) s c = []
 
+-- the edges of the next n steps
 abbrev pub edges_from : ℕ → State → List Edge
 edges_from zero s = []
 edges_from (suc n) s = edge_of s.stop s 0 ++ edges_from n (step s 0)

@@ -1,3 +1,5 @@
 pub mod Opening
 pub mod Run
 pub mod Edges
+pub mod Sound
+pub mod Split

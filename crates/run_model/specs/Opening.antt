@@ -20,14 +20,16 @@ pub record FitArguments (words : List (List ℕ)) : Type 0 where
   pub count : length words ≤ 256
   pub bytes : length (texts (arguments words)) ≤ 65536
 
--- the address of the first text, and of each from there on
+-- the address of the first text: the last of them ends where the stack does
 abbrev pub first_text : List (List ℕ) → ℕ
 first_text args = 0xC0000000 - length (texts args)
 
+-- the addresses of the texts from there on, each in four bytes
 abbrev pub text_places : ℕ → List (List ℕ) → List ℕ
 text_places at [] = []
 text_places at (arg ∷ args) = bytes_of 4 at ++ text_places (at + length arg + 1) args
 
+-- esp, a multiple of 16, with room above it for five words more than there are arguments
 abbrev pub stack_pointer : List (List ℕ) → ℕ
 stack_pointer args = (first_text args - 4 * (length args + 5)) / 16 * 16
 
@@ -40,6 +42,7 @@ stack_words args = bytes_of 4 (length args) ++ (text_places (first_text args) ar
 abbrev pub stack_top : List (List ℕ) → List ℕ
 stack_top args = stack_words args ++ (zeros (first_text args - (stack_pointer args + 4 * (length args + 5))) ++ texts args)
 
+-- the state in which an executable begins: registers and flags 0 but esp, all flags defined
 abbrev pub opening : Exe → List (List ℕ) → List ℕ → State
 opening exe args input = record {
   eip = exe.entry;
@@ -63,6 +66,7 @@ abbrev pub exe_or_none : Result Exe Refused → Exe
 exe_or_none (Ok exe) = exe
 exe_or_none (Err r) = record { entry = 0; segments = []; brk_start = 0 }
 
+-- a file as a guest
 abbrev pub guest_of : List ℕ → Exe
 guest_of file = exe_or_none (elf Guest file)
 

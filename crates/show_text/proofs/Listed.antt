@@ -4,8 +4,7 @@ use Rattle.std.proofs.lemmas.List.{append-nil}
 use Rattle.elf_read.specs.declared.exe.Exe.{Exe}
 use Rattle.ia_inst.specs.declared.inst.Inst.{Inst}
 use Rattle.block_cut.specs.Places.{Placed, found_at, inst_found}
-use Rattle.block_cut.specs.Blocks.{StandFrom, block_of}
-use Rattle.block_cut.proofs.Unique.{block_is}
+use Rattle.block_cut.specs.Blocks.{StandFrom, block_of, EachHasOneBlock}
 use Rattle.show_text.specs.Listing.{line_of, lines_of}
 
 -- the lines of all but so many instructions are written: those stand from an address on
@@ -15,11 +14,11 @@ pub record IsListed (exe : Exe) (insts : List Placed) (text : List ℕ) (left at
   pub stand : StandFrom exe at rest
   pub says : text ++ lines_of exe rest ≡ lines_of exe insts
 
-pub none_listed : (exe : Exe) (start count : ℕ) → count ≡ length (block_of exe start).insts → IsListed exe (block_of exe start).insts [] (count - 0) start
-none_listed exe start count e = record {
+pub none_listed : (exe : Exe) (start count : ℕ) → EachHasOneBlock → count ≡ length (block_of exe start).insts → IsListed exe (block_of exe start).insts [] (count - 0) start
+none_listed exe start count law e = record {
   rest = (block_of exe start).insts;
   count = omega (arith, e);
-  stand = (block_is exe start).stand;
+  stand = ((law exe start (block_of exe start)).1 refl).stand;
   says = refl;
 }
 

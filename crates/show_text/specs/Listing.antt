@@ -1,9 +1,9 @@
 -- The listing of a block: its address, its instructions, and where it goes on.
-use Rattle.std.specs.Prelude.{ℕ, ◌+◌, ◌==◌, Bool, true, false, List, [], ◌++◌, take, codes, if◌then◌else◌}
+use Rattle.std.specs.Prelude.{ℕ, ◌+◌, ◌==◌, Bool, true, false, List, [], ◌++◌, take, reverse, codes, if◌then◌else◌}
 use Rattle.std.specs.List.{flat_map, list_any}
-use Rattle.std.specs.Prelude.{reverse}
 use Rattle.elf_read.specs.declared.exe.Exe.{Exe}
 use Rattle.elf_read.specs.Code.{code_at}
+use Rattle.ia_inst.specs.declared.inst.Inst.{Inst}
 use Rattle.ia_inst.specs.Step.{Found, NoCode, NoInst, There}
 use Rattle.br_word.specs.declared.types.Width.TheVariants.{B8, B32}
 use Rattle.ia_text.specs.Operands.{digits_text}
@@ -17,9 +17,11 @@ use Rattle.block_cut.specs.Blocks.{block_of, cut_of}
 
 -- ---- numbers
 
+-- an address in eight digits
 abbrev pub address_text : ℕ → List ℕ
 address_text at = digits_text B32 at
 
+-- each byte in two digits
 abbrev pub bytes_text : List ℕ → List ℕ
 bytes_text bytes = flat_map (digits_text B8) bytes
 
@@ -27,11 +29,19 @@ bytes_text bytes = flat_map (digits_text B8) bytes
 
 -- the address, the bytes and the text of an instruction
 abbrev pub line_text : Placed → List ℕ → List ℕ
-line_text p bytes = codes "  " ++ (address_text p.at ++ (codes " " ++ (bytes_text bytes ++ (codes " " ++ (text_of p.inst p.at p.size ++ codes "\n")))))
+line_text p bytes =
+    let text = text_of p.inst p.at p.size in
+    codes "  " ++ (address_text p.at ++ (codes " " ++ (bytes_text bytes ++ (codes " " ++ (text ++ codes "\n")))))
 
+-- of one of so many bytes, the first of these
+abbrev pub spelled_line : ℕ → Inst → ℕ → List ℕ → List ℕ
+spelled_line at inst size bytes = line_text (record { at = at; inst = inst; size = size }) (take size bytes)
+
+-- of one that stands in an executable
 abbrev pub line_of : Exe → Placed → List ℕ
 line_of exe p = line_text p (take p.size (code_at p.at exe.segments))
 
+-- of each of them
 abbrev pub lines_of : Exe → List Placed → List ℕ
 lines_of exe insts = flat_map (line_of exe) insts
 
@@ -53,8 +63,10 @@ ways_to_any known = flat_map (way_line (codes "known")) known ++ codes "  to oth
 abbrev pub transfer_ways : List ℕ → Found → ℕ → List ℕ
 transfer_ways known NoCode at = []
 transfer_ways known NoInst at = []
-transfer_ways known (There i n) at = if is_indirect i then ways_to_any known else flat_map (way_to known) (reverse (direct_targets i n at))
+transfer_ways known (There i n) at =
+    if is_indirect i then ways_to_any known else flat_map (way_to known) (reverse (direct_targets i n at))
 
+-- it ends with a transfer
 abbrev pub is_transfer : End → Bool
 is_transfer Transfer = true
 is_transfer Island = false
@@ -64,10 +76,14 @@ is_transfer Full = false
 
 -- a block that ends with no transfer goes on behind its instructions
 abbrev pub ways_of : Exe → List ℕ → ℕ → Cut → List ℕ
-ways_of exe known start cut = if is_transfer cut.end then transfer_ways known (found_at exe cut.last) cut.last else way_to known (start + cut.len)
+ways_of exe known start cut =
+    if is_transfer cut.end then transfer_ways known (found_at exe cut.last) cut.last else way_to known (start + cut.len)
 
 -- ---- the block
 
 -- the listing of the block of a start, with these known ways
 unfoldable pub listing_of : Exe → ℕ → List ℕ → List ℕ
-listing_of exe start known = codes "block " ++ (address_text start ++ (codes "\n" ++ (lines_of exe (block_of exe start).insts ++ ways_of exe known start (cut_of start (block_of exe start)))))
+listing_of exe start known =
+    let b = block_of exe start in
+    let ways = ways_of exe known start (cut_of start b) in
+    codes "block " ++ (address_text start ++ (codes "\n" ++ (lines_of exe b.insts ++ ways)))

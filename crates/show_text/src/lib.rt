@@ -6,7 +6,7 @@ mod lines;
 mod numbers;
 mod ways;
 
-pub use block::show_block;
+pub use block::{show_block, show_cut_block};
 
 #[cfg(test)]
 mod tests;

@@ -1,16 +1,14 @@
 //! Where blocks go on.
-ghost use Rattle.std.specs.Prelude.{◌≡◌, ◌+◌, ◌<◌, ◌^◌, ◌++◌, List, [], ◌∷◌, IfOk, IfSome, string_bytes};
-ghost use Rattle.std.specs.List.{flat_map};
-ghost use Rattle.elf_read.specs.Elf.{IsGuest};
-ghost use Rattle.ia_inst.specs.Meaning.{wrap};
+ghost use Rattle.std.specs.Prelude.{◌≡◌, ◌++◌, IfOk, IsTrue, string_bytes};
+ghost use Rattle.elf_read.specs.Elf.{IsGuest, is_exec};
 ghost use Rattle.block_cut.specs.Places.{found_at};
+ghost use Rattle.block_cut.specs.Blocks.{block_of, cut_of};
 ghost use Rattle.show_text.specs.Listing.{way_line, way_to, ways_to_any, transfer_ways, ways_of};
 
-use crate::lines::instruction_at;
 use crate::numbers::address_text;
+use block_cut::{Cut, End, address_behind, instruction_at};
 use elf_read::Exe;
 use ia_inst::Inst;
-use block_cut::{Cut, End};
 use std::alloc::{AllocError, Global};
 
 /// A way of a kind.
@@ -71,7 +69,7 @@ fn transfer_ways(alloc: Global, exe: &Exe, known: &[u32], at: u32) -> Result<Str
     }
 }
 
-/// The ways of a block.
+/// The ways of a block, whose cut is given.
 pub fn ways_text(
     alloc: Global,
     exe: &Exe,
@@ -80,13 +78,14 @@ pub fn ways_text(
     block: &Cut,
 ) -> Result<String, AllocError>
     requires guest { IsGuest exe.now }
-    requires fits { start + block.now.len < 2 ^ 32 }
+    requires code { IsTrue (is_exec start exe.now.segments) }
+    requires block { block.now ≡ cut_of start (block_of exe.now start) }
     ensures { IfOk result (λ text. string_bytes text ≡ ways_of exe.now known.now start block.now) }
 {
     match block.end {
         End::Transfer => transfer_ways(alloc, exe, known, block.last),
         End::Island | End::BeforeIsland | End::Unreadable | End::Full => {
-            way_to(alloc, known, start + block.len)
+            way_to(alloc, known, address_behind(exe, start, block))
         }
     }
 }

@@ -13,24 +13,7 @@ use Rattle.ia_inst.specs.Meaning.{wrap}
 use Rattle.ia_inst.specs.System.{answers, buffer, filled, system, StepResult, On, Bad, or_bad}
 use Rattle.ia_inst.specs.Step.{Found, NoCode, NoInst, There, found_in, found, act_of, result_of, result_at, step_result, asked_at, settled, unless_stopped, step, AllMarked, NoFault, IsWellDefined}
 use Rattle.run_model.specs.Run.{first_choice, run, WellDefined}
-
--- each region ends below
-abbrev pub AllLow : ℕ → List Region → Type 0
-AllLow low [] = Unit {0}
-AllLow low (r ∷ rs) = (r.start + length r.bytes < low) × AllLow low rs
-
--- each region starts there or above
-abbrev pub AllHigh : ℕ → List Region → Type 0
-AllHigh low [] = Unit {0}
-AllHigh low (r ∷ rs) = (low ≤ r.start) × AllHigh low rs
-
--- the flags that are defined are the same
-pub record Agree (marks a b : Flags) : Type 0 where
-  pub cf : marks.cf ≡ true → a.cf ≡ b.cf
-  pub pf : marks.pf ≡ true → a.pf ≡ b.pf
-  pub zf : marks.zf ≡ true → a.zf ≡ b.zf
-  pub sf : marks.sf ≡ true → a.sf ≡ b.sf
-  pub of : marks.of ≡ true → a.of ≡ b.of
+use Rattle.sim_laws.specs.Wider.{AllLow, AllHigh, IsHigh, Agree, widen, Follows}
 
 agree_at : (marks a b : Flags) → Agree marks a b → (f : Flag) → flag_of f marks ≡ true → flag_of f a ≡ flag_of f b
 agree_at marks a b h CF = h.cf
@@ -119,21 +102,6 @@ written_wide : (low at : ℕ) (new : List ℕ) (extra rs rs' : List Region) → 
 written_wide low at new extra rs rs' x h e =
     let w = written_high low at new rs rs' h e in
     (written_more low at new extra rs rs' x w.0 e, w.1)
-
--- the state with more regions, and with these flags
-abbrev pub widen : List Region → Flags → State → State
-widen extra fl s = record s { cpu = record (s.cpu) { flags = fl }; regions = extra ++ s.regions }
-
-pub record IsHigh (low : ℕ) (s : State) : Type 0 where
-  pub regions : AllHigh low s.regions
-  pub brk : low ≤ s.brk_start
-
--- the other guest comes to a state like this one's
-pub record Follows (low : ℕ) (extra : List Region) (s t : State) : Type 0 where
-  pub flags : Flags
-  pub agree : Agree s.cpu.marks flags s.cpu.flags
-  pub high : IsHigh low s
-  pub same : t ≡ widen extra flags s
 
 -- where the one does not fault, the other does the same
 abbrev pub MatchesEnd : ℕ → List Region → Completion → Completion → Type 0

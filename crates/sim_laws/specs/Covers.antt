@@ -3,9 +3,10 @@ use Rattle.std.specs.Prelude.{ℕ, ◌+◌, ◌*◌, ◌<◌, true, ◌≡◌, L
 use Rattle.elf_read.specs.declared.exe.Segment.{Segment}
 use Rattle.elf_read.specs.Elf.{in_segment}
 use Rattle.run_model.specs.Opening.{FitArguments, guest_of}
-use Rattle.run_model.specs.Run.{AreBytes, AreChoices, run_of, IsWellDefinedRun}
+use Rattle.run_model.specs.Run.{AreOfBytes, AreChoices, run_of, IsWellDefinedRun}
 use Rattle.run_model.specs.Edges.{Edge, edges_of}
 
+-- each edge of a list is in a set
 abbrev pub AllIn : List Edge → List Edge → Type 0
 AllIn set [] = Unit {0}
 AllIn set (e ∷ es) = Contains set e × AllIn set es
@@ -21,6 +22,7 @@ IsOutside at (s ∷ ss) = (in_segment at s ≡ true → ⊥) × IsOutside at ss
 
 -- e and n are the bytes of the files, set the recorded edges
 pub record Covers (e n : List ℕ) (set : List Edge) : Type 0 where
-  pub outside : (words : List (List ℕ)) (input choices : List ℕ) → FitArguments words → AreBytes input → AreChoices choices →
-      (m : ℕ) → IsWellDefinedRun e words input (64 * (m + 1)) → KeepsTo e set words input (64 * (m + 1)) →
-      (k : ℕ) → k < m → IsOutside (run_of n words input choices k).eip (guest_of e).segments
+  pub outside : (words : List (List ℕ)) (input choices : List ℕ)
+      → FitArguments words → AreOfBytes e words input → AreChoices choices
+      → (m : ℕ) → IsWellDefinedRun e words input (64 * (m + 1)) → KeepsTo e set words input (64 * (m + 1))
+      → (k : ℕ) → k < m → IsOutside (run_of n words input choices k).eip (guest_of e).segments

@@ -1,4 +1,8 @@
-//! Laws of runs of guests and of the files that stand for them.
+//! Laws of runs of guests, of the code that they run through, and of the files that stand for them.
 #![tactic(auto)]
 
-pub mod choices;
+mod choices;
+mod states;
+
+pub use choices::{choices_agree, runs_wider};
+pub use states::{edges_count, goes_by_kind, leaves_by_known, runs_through, stays_in_code};

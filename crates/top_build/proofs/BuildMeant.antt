@@ -6,7 +6,7 @@ use Rattle.br_outside.specs.Files.{Files, put}
 use Rattle.br_outside.specs.Outside.{ShelfView, StreamView}
 use Rattle.elf_read.specs.Elf.{elf, Refused}
 use Rattle.elf_read.specs.declared.exe.Exe.{Exe}
-use Rattle.elf_read.specs.declared.exe.Reach.TheVariants.{Original}
+use Rattle.elf_read.specs.declared.exe.Reach.TheVariants.{Original, Guest}
 use Rattle.build_core.specs.Image.{image}
 use Rattle.sim_laws.specs.Preserves.{Preserves}
 use Rattle.top_plan.specs.World.{World, on_shelf, on_report}
@@ -23,7 +23,7 @@ use Rattle.top_plan.specs.declared.ends.Object.TheVariants as objects
 use Rattle.top_plan.specs.declared.ends.Limit.TheVariants as limits
 use Rattle.top_files.specs.OriginalPart.{of_word}
 use Rattle.top_plan.proofs.Followed.{told_to}
-use Rattle.top_plan.proofs.Telling.{HowTold, Taken, Refused, Lacked, how_told}
+use Rattle.top_plan.proofs.Telling.{HowTold, Taken, Refused as Failed, Lacked, how_told}
 use Rattle.top_files.proofs.PartTurns.{checked_quiet}
 use Rattle.top_build.proofs.Courses.{Course, Wants, Misses, Passes, Refuses, Breaks, Keeps, CourseTo, course}
 
@@ -41,7 +41,7 @@ said o old new result k line is not_3 not_4 = by_told (how_told (end_line o) (en
   where
     by_told : HowTold (end_line o) (end_status o) old result new → (end_status o ≡ k) × (new.bytes ≡ option_map (λ w. w ++ end_text o) old.bytes)
     by_told (Taken status grew same) = (sym status ∙ is, grew)
-    by_told (Refused status rose loud) = absurd (not_3 (sym is ∙ status))
+    by_told (Failed status rose loud) = absurd (not_3 (sym is ∙ status))
     by_told (Lacked status same) = absurd (not_4 (sym is ∙ status))
 
 -- an answer 3 is that of the end, and its line was given, or the report failed
@@ -51,7 +51,7 @@ said_3 o s v new result line is = by_told (how_told (end_line o) (end_status o) 
   where
     by_told : HowTold (end_line o) (end_status o) s.report result new → HasFailed objects.Report s (left_as s v new) ⊎ ((end_status o ≡ 3) × (new.bytes ≡ option_map (λ w. w ++ end_text o) s.report.bytes))
     by_told (Taken status grew same) = inr (sym status ∙ is, grew)
-    by_told (Refused status rose loud) = inl (record { rose = rose; loud = loud })
+    by_told (Failed status rose loud) = inl (record { rose = rose; loud = loud })
     by_told (Lacked status same) = absurd (let z : 4 ≡ 3 = sym status ∙ is in omega arith)
 
 line_is : (o x : WorkEnd) (a b : Option (List ℕ)) → b ≡ option_map (λ w. w ++ end_text o) a → o ≡ x → b ≡ option_map (λ w. w ++ end_text x) a
@@ -61,9 +61,9 @@ line_is o x a b h is = let P : WorkEnd → Type 0 = λ o. b ≡ option_map (λ w
 other : {A : Type 0} (o x : WorkEnd) (k : ℕ) → o ≡ x → end_status o ≡ k → (end_status x ≡ k → ⊥) → A
 other o x k is h apart = absurd (apart (sym (ap end_status is) ∙ h))
 
--- the image preserves the behaviour of each original
+-- each original is the same guest, and its image preserves its behaviour
 abbrev pub Law : Type 0
-Law = (file : List ℕ) (exe : Exe) → elf Original file ≡ Ok exe → Preserves file (image exe)
+Law = (file : List ℕ) (exe : Exe) → elf Original file ≡ Ok exe → (elf Guest file ≡ Ok exe) × Preserves file (image exe)
 
 kept_image : (name original content : List ℕ) (exe : Exe) (files : Files) (s t : World) → Law → IfSome s.shelf.files (λ files. files original ≡ Some content) → length content ≤ 16777216 → elf Original content ≡ Ok exe
     → t.shelf.files ≡ option_map (put name (Some (image exe))) s.shelf.files → s.shelf.files ≡ Some files → IsStored name original files t
@@ -73,8 +73,9 @@ kept_image name original content exe files s t law here short accepted stored to
   there = told_to s.shelf.files files (λ files. files original ≡ Some content) told here;
   short = short;
   accepted = accepted;
+  guest = (law content exe accepted).0;
   stored = stored ∙ ap (option_map (put name (Some (image exe)))) told;
-  preserved = law content exe accepted;
+  preserved = (law content exe accepted).1;
 }
 
 -- the status of an end, and its line
@@ -202,7 +203,7 @@ answers : (original : List ℕ) (s : World) (o : WorkEnd) (v : ShelfView) (r : S
 answers original s o v r result files (Taken status grew same) (inl m) = inl (status ∙ ap end_status m)
 answers original s o v r result files (Taken status grew same) (inr (inl failed)) = inr (inl failed)
 answers original s o v r result files (Taken status grew same) (inr (inr is)) = inr (inr (inr (status ∙ is)))
-answers original s o v r result files (Refused status rose loud) ends = inr (inr (inl (record { rose = rose; loud = loud })))
+answers original s o v r result files (Failed status rose loud) ends = inr (inr (inl (record { rose = rose; loud = loud })))
 answers original s o v r result files (Lacked status same) ends = inl status
 
 means_course : (name original : List ℕ) (o : WorkEnd) (s : World) (v : ShelfView) (r : StreamView) (result : ℕ) → Law → Course name original s.shelf o v → Line o s.report result r → MeansBuild name original s result (left_as s v r)

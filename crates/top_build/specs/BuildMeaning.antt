@@ -1,9 +1,10 @@
 -- What the answers of `build` mean, in a user's words.
 use Rattle.std.specs.Prelude.{◌≡◌, ◌⊎◌, ◌<◌, ◌≤◌, nat_le, ℕ, List, length, Option, Some, None, IfSome, Result, Ok, Err, cond, IsTrue}
+use Rattle.elf_read.specs.declared.limits.TheConstants.{ORIGINAL_FILE_LIMIT}
 use Rattle.br_outside.specs.Files.{Files, put}
 use Rattle.elf_read.specs.Elf.{elf, Refused}
 use Rattle.elf_read.specs.declared.exe.Exe.{Exe}
-use Rattle.elf_read.specs.declared.exe.Reach.TheVariants.{Original}
+use Rattle.elf_read.specs.declared.exe.Reach.TheVariants.{Original, Guest}
 use Rattle.build_core.specs.Image.{image}
 use Rattle.sim_laws.specs.Preserves.{Preserves}
 use Rattle.top_plan.specs.World.{World}
@@ -15,14 +16,15 @@ use Rattle.top_files.specs.Answers.{Says, Unstored, OnlyUnder}
 use Rattle.top_plan.specs.declared.ends.Object.TheVariants as objects
 use Rattle.top_plan.specs.declared.ends.Limit.TheVariants as limits
 
--- The content of the original is accepted, its image is stored under the name and preserves its behaviour, and all other
--- names are as before.
+-- The content of the original is accepted, and as a guest it is the same executable; its image is stored under the name and
+-- preserves its behaviour, and all other names are as before.
 pub record IsStored (name original : List ℕ) (files : Files) (t : World) : Type 0 where
   pub content : List ℕ
   pub exe : Exe
   pub there : files original ≡ Some content
-  pub short : length content ≤ 16777216
+  pub short : length content ≤ ORIGINAL_FILE_LIMIT
   pub accepted : elf Original content ≡ Ok exe
+  pub guest : elf Guest content ≡ Ok exe
   pub stored : t.shelf.files ≡ Some (put name (Some (image exe)) files)
   pub preserved : Preserves content (image exe)
 
@@ -38,7 +40,7 @@ read_status (Err refused) = 2
 -- the status of `build N E` by the content of E, where nothing fails and memory is there
 abbrev pub build_status : Option (List ℕ) → ℕ
 build_status None = 3
-build_status (Some content) = cond (nat_le (length content) 16777216) (read_status (elf Original content)) 7
+build_status (Some content) = cond (nat_le (length content) ORIGINAL_FILE_LIMIT) (read_status (elf Original content)) 7
 
 -- the shelf's content of a name, where it tells it, is so
 abbrev pub Holds : List ℕ → (List ℕ → Type 0) → Option Files → Type 0
@@ -52,13 +54,13 @@ pub record MeansBuild (name original : List ℕ) (s : World) (result : ℕ) (t :
       → (stored : IsStored name original files t) × Says (built_line 0 5 (length (image stored.exe))) s t
   pub usage : result ≡ 1 → ⊥
   pub refused : result ≡ 2 → Unstored s t × (refused : Refused) × Says (cause_text (RefusedWord 2 refused.number refused.place)) s t
-      × Holds original (λ content. (length content ≤ 16777216) × (elf Original content ≡ Err refused)) s.shelf.files
+      × Holds original (λ content. (length content ≤ ORIGINAL_FILE_LIMIT) × (elf Original content ≡ Err refused)) s.shelf.files
   pub outside : result ≡ 3 → HasFailed objects.Report s t ⊎ Says (object_text objects.Shelf) s t
   pub absent : result ≡ 3 → IsTrue s.shelf.calm
       → HasFailed objects.Report s t ⊎ (Unstored s t × IfSome s.shelf.files (λ files. files original ≡ None))
   pub memory : result ≡ 4 → Unstored s t ⊎ (HasFailed objects.Shelf s t ⊎ Stores name original s t)
-  pub limit : result ≡ 7 → Unstored s t × Says (cause_text (Limited (limits.File 16777216))) s t
-      × Holds original (λ content. 16777216 < length content) s.shelf.files
+  pub limit : result ≡ 7 → Unstored s t × Says (cause_text (Limited (limits.File ORIGINAL_FILE_LIMIT))) s t
+      × Holds original (λ content. ORIGINAL_FILE_LIMIT < length content) s.shelf.files
   pub no_guest : (result ≡ 5) ⊎ (result ≡ 6) → ⊥
   pub others : OnlyUnder name s t
   pub input : t.input ≡ s.input

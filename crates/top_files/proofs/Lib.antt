@@ -1,3 +1,4 @@
+pub mod GuestToo
 pub mod TracesRun
 pub mod ReadMeant
 pub mod PartTurns

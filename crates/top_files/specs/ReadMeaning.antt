@@ -1,5 +1,8 @@
 -- What a command has done that reads an original and its traces, by what the work behind them has done.
 use Rattle.std.specs.Prelude.{◌<◌, ◌≤◌, ◌+◌, ℕ, List, [], ◌∷◌, ◌++◌, length, Option, Some, None, Result, Ok, Err}
+use Rattle.elf_read.specs.declared.limits.TheConstants.{ORIGINAL_FILE_LIMIT}
+use Rattle.trace_file.specs.declared.limits.TheConstants.{EDGE_LIMIT}
+use Rattle.top_files.specs.declared.traces.TheConstants.{TRACE_FILE_LIMIT}
 use Rattle.br_outside.specs.Files.{Files}
 use Rattle.elf_read.specs.Elf.{elf, Refused}
 use Rattle.elf_read.specs.declared.exe.Exe.{Exe}
@@ -15,14 +18,14 @@ use Rattle.top_files.specs.Answers.{IsAbsent, IsRefused, IsPast, UnlessLong}
 -- By what a trace is: `next` is what its edges lead to, and `before` how many edges the traces before it have.
 abbrev pub ReadsEdges : Result (List Edge) trace_file.Refused → (List Edge → Type 0) → ℕ → ℕ → World → ℕ → World → Type 0
 ReadsEdges (Ok es) next word before s result t =
-    (before + length es ≤ 16777216 → next es) × (16777216 < before + length es → IsPast (limits.Edges 16777216) s result t)
+    (before + length es ≤ EDGE_LIMIT → next es) × (EDGE_LIMIT < before + length es → IsPast (limits.Edges EDGE_LIMIT) s result t)
 ReadsEdges (Err refused) next word before s result t = IsRefused word refused.number refused.place s result t
 
 -- by the content of a trace
 abbrev pub ReadsTrace : Option (List ℕ) → (List Edge → Type 0) → List ℕ → ℕ → ℕ → World → ℕ → World → Type 0
 ReadsTrace None next digest word before s result t = IsAbsent s result t
 ReadsTrace (Some content) next digest word before s result t =
-    UnlessLong 16777216 content (ReadsEdges (trace content digest) next word before s result t) s result t
+    UnlessLong TRACE_FILE_LIMIT content (ReadsEdges (trace content digest) next word before s result t) s result t
 
 -- By the contents of the names that are left, whose traces have `before` edges together so far. With the edges of all it goes
 -- on as `last` says.
@@ -46,4 +49,4 @@ abbrev pub ReadsContent : (Exe → List ℕ → List (List Edge) → Type 0)
     → List (List ℕ) → ℕ → Option (List ℕ) → Files → World → ℕ → World → Type 0
 ReadsContent last names word None files s result t = IsAbsent s result t
 ReadsContent last names word (Some content) files s result t =
-    UnlessLong 16777216 content (ReadsExe last names word content (elf Original content) files s result t) s result t
+    UnlessLong ORIGINAL_FILE_LIMIT content (ReadsExe last names word content (elf Original content) files s result t) s result t

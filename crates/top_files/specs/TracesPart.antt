@@ -1,5 +1,7 @@
 -- The traces of an original that are fetched, read and counted, as parts of plans.
 use Rattle.std.specs.Prelude.{ℕ, ◌+◌, nat_le, cond, List, [], ◌∷◌, length, Result, Ok, Err}
+use Rattle.trace_file.specs.declared.limits.TheConstants.{EDGE_LIMIT, FILE_EDGE_LIMIT}
+use Rattle.top_files.specs.declared.traces.TheConstants.{TRACE_FILE_LIMIT}
 use Rattle.trace_file.specs.Edges.{Edge}
 use Rattle.trace_file.specs.Trace.{trace}
 use Rattle.top_plan.specs.Plan.{Plan, Fetches}
@@ -16,13 +18,13 @@ edges_of_word word (Err refused) = Err (RefusedWord word refused.number refused.
 
 -- the edges of a trace, unless so many more than those before it are too many
 abbrev pub counted : ℕ → Result (List Edge) Cause → Result (List Edge) Cause
-counted before (Ok es) = cond (nat_le (before + length es) 16777216) (Ok es) (Err (Limited (limits.Edges 16777216)))
+counted before (Ok es) = cond (nat_le (before + length es) EDGE_LIMIT) (Ok es) (Err (Limited (limits.Edges EDGE_LIMIT)))
 counted before (Err cause) = Err cause
 
 -- a trace of the original with this digest is fetched, read and counted
 abbrev pub trace_part : List ℕ → List ℕ → ℕ → ℕ → (List Edge → Plan) → Plan
 trace_part digest name word before next =
-    Fetches name 16777216 (λ bytes. checked (counted before (edges_of_word word (trace bytes digest))) next)
+    Fetches name TRACE_FILE_LIMIT (λ bytes. checked (counted before (edges_of_word word (trace bytes digest))) next)
 
 -- the traces of names, one after another; their words begin at a position
 unfoldable pub traces_part : List ℕ → List (List ℕ) → ℕ → ℕ → (List (List Edge) → Plan) → Plan
@@ -33,4 +35,4 @@ traces_part digest (name ∷ names) word before next =
 
 -- the union of traces, unless it is too large for one
 abbrev pub limited : List Edge → Result (List Edge) Cause
-limited es = cond (nat_le (length es) 2000000) (Ok es) (Err (Limited (limits.Union 2000000)))
+limited es = cond (nat_le (length es) FILE_EDGE_LIMIT) (Ok es) (Err (Limited (limits.Union FILE_EDGE_LIMIT)))

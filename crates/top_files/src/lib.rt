@@ -5,4 +5,4 @@ pub mod original;
 pub mod traces;
 
 pub use original::{Subject, fetch_original, fetch_subject};
-pub use traces::{UNION_LIMIT, fetch_traces, store_trace};
+pub use traces::{TRACE_FILE_LIMIT, fetch_traces, store_trace};

@@ -10,16 +10,10 @@ ghost use Rattle.top_files.specs.TracesPart.{edges_of_word, counted, trace_part,
 use br_outside::Shelf;
 use std::alloc::Global;
 use top_plan::{Cause, Halt, Limit, fetch_file, store_file};
-use trace_file::{Edges, TraceError, read_trace, write_trace};
+use trace_file::{EDGE_LIMIT, Edges, FILE_EDGE_LIMIT, TraceError, read_trace, write_trace};
 
-/// The most bytes of a trace.
-const FILE_LIMIT: u32 = 16777216;
-
-/// The most edges of all traces that are given.
-const EDGE_LIMIT: u32 = 16777216;
-
-/// The most edges that are stored as one trace.
-pub const UNION_LIMIT: u32 = 2000000;
+/// The most bytes of a file that is fetched as a trace.
+pub const TRACE_FILE_LIMIT: u32 = 16777216;
 
 /// The number of the refusal of a trace of another executable, and its place.
 const OTHER_NUMBER: u32 = 22;
@@ -86,7 +80,7 @@ fn fetch_trace<F: Shelf>(
         (on_shelf w (F.seen shelf.old)) result (on_shelf w (F.seen shelf.new)) }
     ensures count { IfOk result (λ es. before + length es ≤ EDGE_LIMIT) }
 {
-    let bytes = fetch_file(alloc, shelf, name, FILE_LIMIT)?;
+    let bytes = fetch_file(alloc, shelf, name, TRACE_FILE_LIMIT)?;
     counted_edges(alloc, bytes.as_slice(), digest, word, before)
 }
 
@@ -121,7 +115,7 @@ pub fn fetch_traces<F: Shelf>(
 
 /// The file of a trace. The error is want of memory.
 fn file_of(alloc: Global, edges: &Edges, digest: &[u8; 32]) -> Result<Vec<u8>, Halt>
-    requires { length edges.now ≤ UNION_LIMIT }
+    requires { length edges.now ≤ FILE_EDGE_LIMIT }
     ensures { Checks (λ v. v.items) result (Ok (trace_bytes edges.now digest.now)) }
 {
     match write_trace(alloc, edges, digest) {
@@ -132,8 +126,8 @@ fn file_of(alloc: Global, edges: &Edges, digest: &[u8; 32]) -> Result<Vec<u8>, H
 
 /// Stores edges under a name, as a trace of the original with this digest.
 ///
-/// The error is want of memory, after which the content of the name is as before, or a failure of the shelf, after which it is not
-/// known.
+/// The error is want of memory, after which the content of the name is as before, or a failure of the shelf, after
+/// which it is not known.
 pub fn store_trace<F: Shelf>(
     alloc: Global,
     shelf: &mut F,
@@ -141,7 +135,7 @@ pub fn store_trace<F: Shelf>(
     edges: &Edges,
     digest: &[u8; 32],
 ) -> Result<(), Halt>
-    requires { length edges.now ≤ UNION_LIMIT }
+    requires { length edges.now ≤ FILE_EDGE_LIMIT }
     ensures { (w : World) → Goes (λ x. x) (λ next. Stores name.now (trace_bytes edges.now digest.now) (next tt))
         (on_shelf w (F.seen shelf.old)) result (on_shelf w (F.seen shelf.new)) }
 {

@@ -1,12 +1,14 @@
 -- Listings that are made and printed.
 use Rattle.std.proofs.Common.{◌≡◌, ℕ, ◌≤◌, true, false, ◌==◌, cond, List, [], ◌∷◌, length, Result, Ok, Err, sym, subst, ap, ◌∙◌, arith}
+use Rattle.flow_graph.specs.declared.error.TheConstants.{MAX_BLOCKS}
 use Rattle.std.specs.Prelude.{nat_le}
 use Rattle.std.proofs.lemmas.Bool.Decides.{nat_tests}
 use Rattle.elf_read.specs.declared.exe.Exe.{Exe}
 use Rattle.elf_read.specs.Elf.{IsGuest}
 use Rattle.trace_file.specs.Edges.{Edge}
-use Rattle.flow_graph.specs.Graph.{Node, counting, IsGraph}
-use Rattle.flow_graph.specs.Made.{graph_of, OneGraph}
+use Rattle.block_cut.specs.CountedEdges.{counting}
+use Rattle.flow_graph.specs.Graph.{Node, IsGraph}
+use Rattle.flow_graph.specs.GraphOf.{graph_of, OneGraph}
 use Rattle.top_plan.specs.World.{World}
 use Rattle.top_plan.specs.Texts.{WorkEnd}
 use Rattle.top_plan.specs.Plan.{Ends, Went}
@@ -19,12 +21,12 @@ use Rattle.top_plan.specs.declared.ends.Limit.TheVariants as limits
 use Rattle.top_plan.proofs.Passes.{ok_same}
 
 -- a graph of few blocks is the only one, and passes
-passes_limit : (g : List Node) → length g ≤ 65536 → limited_graph g ≡ Ok g
+passes_limit : (g : List Node) → length g ≤ MAX_BLOCKS → limited_graph g ≡ Ok g
 passes_limit g few =
-    let small : nat_le (length g) 65536 ≡ true = grind (arith, nat_tests) in
-    ap (λ b. let r : Result (List Node) Cause = cond b (Ok g) (Err (Limited (limits.Blocks 65536))) in r) small
+    let small : nat_le (length g) MAX_BLOCKS ≡ true = grind (arith, nat_tests) in
+    ap (λ b. let r : Result (List Node) Cause = cond b (Ok g) (Err (Limited (limits.Blocks MAX_BLOCKS))) in r) small
 
-pub is_limited : (exe : Exe) (edges es : List Edge) (g : List Node) → OneGraph → IsGuest exe → es ≡ edges → IsGraph exe (counting exe es) g → length g ≤ 65536 → limited_graph (graph_of exe edges) ≡ Ok g
+pub is_limited : (exe : Exe) (edges es : List Edge) (g : List Node) → OneGraph → IsGuest exe → es ≡ edges → IsGraph exe (counting exe es) g → length g ≤ MAX_BLOCKS → limited_graph (graph_of exe edges) ≡ Ok g
 is_limited exe edges es g one guest is graph few =
     ap (λ es. limited_graph (graph_of exe es)) (sym is)
     ∙ ap limited_graph (sym (one.only exe es g guest graph))

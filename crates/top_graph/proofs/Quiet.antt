@@ -1,7 +1,7 @@
 -- Commands that take nothing of the input.
 use Rattle.std.proofs.Common.{◌≡◌, ℕ, List, [], ◌∷◌, length, Ok, ◌∙◌, ap}
 use Rattle.trace_file.specs.Edges.{union_of}
-use Rattle.flow_graph.specs.Made.{graph_of}
+use Rattle.flow_graph.specs.GraphOf.{graph_of}
 use Rattle.top_plan.specs.World.{World}
 use Rattle.top_plan.specs.Plan.{Plan, Ends}
 use Rattle.top_plan.specs.Parts.{prints}

@@ -1,12 +1,13 @@
 -- What `show` answers means what it is to mean.
 use Rattle.std.proofs.Common.{◌≡◌, ℕ, List, [], ◌∷◌, ◌++◌, length, Result, Ok, Err, sym, ◌∙◌, ap, subst, inl, inr}
+use Rattle.flow_graph.specs.declared.error.TheConstants.{MAX_BLOCKS}
 use Rattle.std.specs.Option.{option_map}
 use Rattle.std.proofs.lemmas.List.{append-nil}
 use Rattle.br_outside.specs.Files.{Files}
 use Rattle.elf_read.specs.declared.exe.Exe.{Exe}
 use Rattle.trace_file.specs.Edges.{union_of}
 use Rattle.flow_graph.specs.Graph.{Node}
-use Rattle.flow_graph.specs.Made.{graph_of}
+use Rattle.flow_graph.specs.GraphOf.{graph_of}
 use Rattle.top_plan.specs.World.{World}
 use Rattle.top_plan.specs.Plan.{Ends}
 use Rattle.top_plan.specs.Parts.{checked, prints}
@@ -43,8 +44,8 @@ graph_means : (exe : Exe) (g : List Node) (files : Files) (s : World) (result : 
 unfolding expected
 graph_means exe g files s result t h w =
     let P : Result (List Node) Cause → Type 0 = λ r. Did (checked r (listing_part exe)) files s result t in
-    let by = chosen P (length g) 65536 (Ok g) (Err (Limited (limits.Blocks 65536))) w in
-    (λ few. has_printed (listing exe g) (length g) files s result t h (by.0 few), λ many. says (Because (Limited (limits.Blocks 65536))) files s result t h (by.1 many))
+    let by = chosen P (length g) MAX_BLOCKS (Ok g) (Err (Limited (limits.Blocks MAX_BLOCKS))) w in
+    (λ few. has_printed (listing exe g) (length g) files s result t h (by.0 few), λ many. says (Because (Limited (limits.Blocks MAX_BLOCKS))) files s result t h (by.1 many))
 
 pub means_show : (original : List ℕ) (names : List (List ℕ)) (s : World) (result : ℕ) (t : World) → Happened (show_plan original names) s result t → IsExact (show_plan original names) s result t
     → MeansShow original names s result t

@@ -1,5 +1,6 @@
 -- What `merge` does, in a user's words.
 use Rattle.std.specs.Prelude.{◌≡◌, ◌<◌, ◌≤◌, ℕ, List, length, Some}
+use Rattle.trace_file.specs.declared.limits.TheConstants.{FILE_EDGE_LIMIT}
 use Rattle.br_outside.specs.Files.{Files, put}
 use Rattle.elf_read.specs.declared.exe.Exe.{Exe}
 use Rattle.trace_file.specs.Edges.{Edge, union_of}
@@ -21,8 +22,8 @@ pub record HasStored (name bytes line : List ℕ) (files : Files) (s : World) (r
 -- of the original with this digest the edges were stored, unless they are too many
 abbrev pub MergesUnion : List ℕ → List ℕ → List Edge → Files → World → ℕ → World → Type 0
 MergesUnion target digest es files s result t =
-    (length es ≤ 2000000 → HasStored target (trace_bytes es digest) (merged_line (length es)) files s result t)
-    × (2000000 < length es → IsPast (limits.Union 2000000) s result t)
+    (length es ≤ FILE_EDGE_LIMIT → HasStored target (trace_bytes es digest) (merged_line (length es)) files s result t)
+    × (FILE_EDGE_LIMIT < length es → IsPast (limits.Union FILE_EDGE_LIMIT) s result t)
 
 -- what was merged, by the original and the sets of edges of its traces
 abbrev pub MergesSets : List ℕ → Files → World → ℕ → World → Exe → List ℕ → List (List Edge) → Type 0

@@ -1,11 +1,12 @@
 -- What `show` does, in a user's words.
 use Rattle.std.specs.Prelude.{◌≡◌, ◌<◌, ◌≤◌, ◌+◌, ℕ, List, ◌++◌, length, Some}
+use Rattle.flow_graph.specs.declared.error.TheConstants.{MAX_BLOCKS}
 use Rattle.std.specs.Option.{option_map}
 use Rattle.br_outside.specs.Files.{Files}
 use Rattle.elf_read.specs.declared.exe.Exe.{Exe}
 use Rattle.trace_file.specs.Edges.{Edge, union_of}
 use Rattle.flow_graph.specs.Graph.{Node}
-use Rattle.flow_graph.specs.Made.{graph_of}
+use Rattle.flow_graph.specs.GraphOf.{graph_of}
 use Rattle.top_plan.specs.World.{World}
 use Rattle.top_graph.specs.ShowPlan.{listing, shown_line}
 use Rattle.top_files.specs.Answers.{Says, Unstored, UnlessBroken, IsPast}
@@ -22,8 +23,8 @@ pub record HasPrinted (text line : List ℕ) (s : World) (result : ℕ) (t : Wor
 
 -- the blocks of the graph were listed, unless they are too many
 abbrev pub ShowsGraph : Exe → List Node → World → ℕ → World → Type 0
-ShowsGraph exe g s result t = (length g ≤ 65536 → HasPrinted (listing exe g) (shown_line (length g)) s result t)
-    × (65536 < length g → IsPast (limits.Blocks 65536) s result t)
+ShowsGraph exe g s result t = (length g ≤ MAX_BLOCKS → HasPrinted (listing exe g) (shown_line (length g)) s result t)
+    × (MAX_BLOCKS < length g → IsPast (limits.Blocks MAX_BLOCKS) s result t)
 
 -- what was listed, by the original and the sets of edges of its traces
 abbrev pub ShowsSets : World → ℕ → World → Exe → List ℕ → List (List Edge) → Type 0

@@ -1,5 +1,6 @@
 -- The plan of `show`.
 use Rattle.std.specs.Prelude.{ℕ, nat_le, cond, List, ◌++◌, length, flat_map, codes, Result, Ok, Err, ◌+◌}
+use Rattle.flow_graph.specs.declared.error.TheConstants.{MAX_BLOCKS}
 use Rattle.std.specs.Fmt.{decimal}
 use Rattle.elf_read.specs.declared.exe.Exe.{Exe}
 use Rattle.flow_graph.specs.Graph.{Node}
@@ -10,7 +11,7 @@ use Rattle.top_plan.specs.declared.ends.Cause.{Cause}
 use Rattle.top_plan.specs.declared.ends.Cause.TheVariants.{Limited}
 use Rattle.top_plan.specs.Outcomes.{done_with}
 use Rattle.trace_file.specs.Edges.{union_of}
-use Rattle.flow_graph.specs.Made.{graph_of}
+use Rattle.flow_graph.specs.GraphOf.{graph_of}
 use Rattle.top_files.specs.OriginalPart.{subject_part}
 use Rattle.top_files.specs.TracesPart.{traces_part}
 use Rattle.top_plan.specs.declared.ends.Limit.TheVariants as limits
@@ -21,7 +22,7 @@ listing exe g = flat_map (λ b. listing_of exe b.start b.known) g
 
 -- the graph, unless it has too many blocks
 abbrev pub limited_graph : List Node → Result (List Node) Cause
-limited_graph g = cond (nat_le (length g) 65536) (Ok g) (Err (Limited (limits.Blocks 65536)))
+limited_graph g = cond (nat_le (length g) MAX_BLOCKS) (Ok g) (Err (Limited (limits.Blocks MAX_BLOCKS)))
 
 -- the report line
 abbrev pub shown_line : ℕ → List ℕ

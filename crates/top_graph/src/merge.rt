@@ -1,5 +1,5 @@
 //! `merge T E T..`: the union of traces, stored under a name.
-ghost use Rattle.std.specs.Prelude.{◌≤◌, Ok, IfOk, length, map, string_bytes};
+ghost use Rattle.std.specs.Prelude.{◌≤◌, ◌<◌, ◌+◌, ◌^◌, Ok, IfOk, length, map, string_bytes};
 ghost use Rattle.trace_file.specs.Edges.{pairs, union_of};
 ghost use Rattle.top_plan.specs.World.{World, on_shelf};
 ghost use Rattle.top_plan.specs.Plan.{Went};
@@ -10,21 +10,21 @@ ghost use Rattle.top_plan.specs.Texts.{end_of};
 
 use br_outside::Shelf;
 use std::alloc::Global;
-use top_files::{UNION_LIMIT, fetch_subject, fetch_traces, store_trace};
+use top_files::{fetch_subject, fetch_traces, store_trace};
 use top_plan::{Cause, Finish, Halt, Limit, Outcome};
-use trace_file::{Edges, union_all};
+use trace_file::{EDGE_LIMIT, Edges, FILE_EDGE_LIMIT, union_all};
 
 /// The union of traces. The error is the limit on it, or want of memory.
 fn union_of(alloc: Global, traces: Vec<Edges>) -> Result<Edges, Halt>
-    requires { pairs traces.items ≤ 16777216 }
+    requires { pairs traces.items ≤ EDGE_LIMIT }
     ensures checks { Checks (λ es. es) result (limited (union_of traces.items)) }
-    ensures count { IfOk result (λ es. length es ≤ UNION_LIMIT) }
+    ensures count { IfOk result (λ es. length es ≤ FILE_EDGE_LIMIT) }
 {
     let Ok(edges) = union_all(alloc, traces.as_slice()) else {
         return Err(Halt::Memory);
     };
-    if edges.len() > UNION_LIMIT {
-        return Err(Halt::Because(Cause::Limited(Limit::Union(UNION_LIMIT))));
+    if edges.len() > FILE_EDGE_LIMIT {
+        return Err(Halt::Because(Cause::Limited(Limit::Union(FILE_EDGE_LIMIT))));
     }
     Ok(edges)
 }
@@ -49,7 +49,7 @@ fn store_union<F: Shelf>(
     edges: &Edges,
     digest: &[u8; 32],
 ) -> Result<Outcome, Halt>
-    requires { length edges.now ≤ UNION_LIMIT }
+    requires { length edges.now ≤ FILE_EDGE_LIMIT }
     ensures { (w : World) → Went (store_part target.now digest.now edges.now)
         (on_shelf w (F.seen shelf.old)) (end_of result) (on_shelf w (F.seen shelf.new)) }
 {
@@ -73,7 +73,7 @@ pub fn merge_command<F: Shelf>(
     original: &str,
     names: &[String],
 ) -> Result<Outcome, Halt>
-    requires { length names.now ≤ 4096 }
+    requires { 3 + length names.now < 2 ^ 32 }
     ensures { (w : World) → Went (merge_plan target.now original.now (map string_bytes names.now))
         (on_shelf w (F.seen shelf.old)) (end_of result) (on_shelf w (F.seen shelf.new)) }
 {

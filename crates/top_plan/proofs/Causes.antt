@@ -1,3 +1,4 @@
+-- Why a run ended as it did: an object is named only where its count of faults rose.
 use Rattle.std.proofs.Common.{◌≡◌, Ok, Err, sym, subst, inl, inr, arith}
 use Rattle.br_outside.specs.Outside.{Rose}
 use Rattle.br_outside.specs.declared.errors.ShelfError.TheVariants as shelf_errors

@@ -3,7 +3,7 @@ use Rattle.std.proofs.Common.{◌≡◌, ℕ, List, Some, Result, Ok, Err, IsErr
 use Rattle.std.proofs.lemmas.Result.{err_from_is_err_and}
 use Rattle.top_plan.specs.World.{World}
 use Rattle.top_plan.specs.Plan.{Plan, Ends, Went}
-use Rattle.top_plan.specs.Texts.{Finished, WorkEnd, end_of}
+use Rattle.top_plan.specs.Texts.{Finished, end_of}
 use Rattle.top_plan.specs.declared.ends.Outcome.{Outcome}
 use Rattle.top_plan.specs.declared.ends.Finish.{Finish}
 use Rattle.top_plan.specs.declared.ends.Halt.{Halt}

@@ -1,3 +1,4 @@
+-- Runs that pass through the nodes of a plan, whatever the plan.
 use Rattle.std.proofs.Common.{◌≡◌, ℕ, List, Result, Ok, Err, IsErrAnd, refl, sym, subst, inl, inr}
 use Rattle.br_outside.specs.Outside.{ShelfView, StreamView, Fetched, Stored, Gave}
 use Rattle.br_outside.specs.declared.errors.ShelfError.{ShelfError}

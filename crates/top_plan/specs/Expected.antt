@@ -29,20 +29,25 @@ pub record Ending : Type 0 where
   pub printed : List ℕ
   pub reported : List ℕ
 
+-- the work ends here: nothing was stored, printed or reported before
 abbrev pub ends_with : WorkEnd → Files → List ℕ → Ending
 ends_with end files left = record { end = end; files = files; stored = []; left = left; spare = 0; printed = []; reported = [] }
 
+-- by the content of the name: it is not there, is too long, or the work goes on with it
 abbrev pub after_fetch : ℕ → (List ℕ → Ending) → Files → List ℕ → Option (List ℕ) → Ending
 after_fetch limit next files left None = ends_with (Err (Outside objects.Shelf)) files left
 after_fetch limit next files left (Some bytes) =
     cond (nat_le (length bytes) limit) (next bytes) (ends_with (Err (Because (Limited (limits.File limit)))) files left)
 
+-- the same behind a file that was stored, a text that was printed, and a turn
 abbrev pub stored_before : List ℕ → List ℕ → Ending → Ending
 stored_before name bytes e = record e { stored = record { name = name; bytes = bytes } ∷ e.stored }
 
+-- behind a text that was printed
 abbrev pub printed_before : List ℕ → Ending → Ending
 printed_before text e = record e { printed = text ++ e.printed }
 
+-- behind a turn
 abbrev pub turned_before : Turned → Ending → Ending
 turned_before d e = record e { spare = d.spare + e.spare; printed = d.printed ++ e.printed; reported = d.reported ++ e.reported }
 
@@ -109,6 +114,7 @@ pub record IsWhole (files : Files) (left : List ℕ) (e : Ending) (s : World) (r
 abbrev pub Decided : Files → List ℕ → Ending → World → ℕ → World → Type 0
 Decided files left e s result t = (result ≡ 4) ⊎ ((result ≡ 3) × (x : Object) × HasFailed x s t) ⊎ IsWhole files left e s result t
 
+-- Where the objects that the plan asks tell what they hold, this decides the answer and what it leaves.
 abbrev pub IsExact : Plan → World → ℕ → World → Type 0
 IsExact plan s result t =
     (files : Files) (left : List ℕ) → IsTold plan files left s → Decided files left (expected plan files left) s result t

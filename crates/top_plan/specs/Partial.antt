@@ -45,6 +45,7 @@ pub record IsFront (files : Files) (left : List ℕ) (e : Ending) (s t : World) 
   pub out : WroteFront e.printed s.out.bytes t.out.bytes
   pub report : ReportedFront e s t
 
+-- Where the objects that the plan asks tell what they hold, each is left so, whatever the status.
 abbrev pub IsPartial : Plan → World → World → Type 0
 IsPartial plan s t = (files : Files) (left : List ℕ) → IsTold plan files left s → IsFront files left (expected plan files left) s t
 

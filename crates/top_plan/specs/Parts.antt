@@ -23,6 +23,7 @@ ChecksErr (Because cause) check = check ≡ Err cause
 ChecksErr (Outside object) check = ⊥
 ChecksErr Memory check = Unit {0}
 
+-- The same of an answer that may be Ok.
 abbrev pub Checks : {X Y : Type 0} → (X → Y) → Result X Halt → Result Y Cause → Type 0
 Checks view (Ok x) check = check ≡ Ok (view x)
 Checks view (Err halt) check = ChecksErr halt check

@@ -49,17 +49,20 @@ RunsOut s o t = (o ≡ Err Memory) × (t ≡ s)
 abbrev pub CallFails : Object → Run
 CallFails object s o t = (o ≡ Err (Outside object)) × (t ≡ s)
 
+-- what comes after a fetch, by its answer
 abbrev pub AfterFetch : ℕ → (List ℕ → Run) → Result (List ℕ) ShelfError → Run
 AfterFetch limit next (Ok bytes) s o t = next bytes s o t
 AfterFetch limit next (Err shelf_errors.Failed) s o t = CallFails objects.Shelf s o t
 AfterFetch limit next (Err shelf_errors.TooLong) s o t = (o ≡ Err (Because (Limited (limits.File limit)))) × (t ≡ s)
 AfterFetch limit next (Err shelf_errors.Memory) s o t = RunsOut s o t
 
+-- what comes after a store, by its answer
 abbrev pub AfterStore : Run → Result (Unit {0}) StoreError → Run
 AfterStore next (Ok _) s o t = next s o t
 AfterStore next (Err store_errors.Failed) s o t = CallFails objects.Shelf s o t
 AfterStore next (Err store_errors.Memory) s o t = RunsOut s o t
 
+-- what comes after a give to this object, by its answer
 abbrev pub AfterGive : Object → Run → Result (Unit {0}) SinkError → Run
 AfterGive object next (Ok _) s o t = next s o t
 AfterGive object next (Err sink_errors.Failed) s o t = CallFails object s o t
@@ -141,6 +144,7 @@ Fetching name limit next s o t =
     (v : ShelfView) × (answer : Result (List ℕ) ShelfError) × Fetched name limit answer s.shelf v
     × AfterFetch limit next answer (on_shelf s v) o t
 
+-- the file was stored, and what comes then
 abbrev pub Storing : List ℕ → List ℕ → Run → Run
 Storing name bytes next s o t =
     (v : ShelfView) × (answer : Result (Unit {0}) StoreError) × Stored name bytes answer s.shelf v

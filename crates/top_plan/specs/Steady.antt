@@ -21,6 +21,7 @@ pub record ReportRose (x : Object) (s t : World) : Type 0 where
   pub rose : Rose s.report.faults t.report.faults
   pub others : (y : Object) → (y ≡ x → ⊥) → (y ≡ objects.Report → ⊥) → faults_of y t ≡ faults_of y s
 
+-- where the faults of a call stand, by its status
 pub data IsSteady (s : World) (result : ℕ) (t : World) : Type 0 where
   -- 0, 1, 2, 5, 6, 7, and 4 but for the case below: no call failed
   NoneFailed : (result ≡ 3 → ⊥) → NoneRose s t → IsSteady s result t

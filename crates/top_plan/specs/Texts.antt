@@ -30,6 +30,7 @@ end_of (Err halt) = Err halt
 
 -- ---- the texts
 
+-- a call of this object failed
 abbrev pub object_text : Object → List ℕ
 object_text objects.Shelf = codes "outside shelf\n"
 object_text objects.Input = codes "outside input\n"
@@ -46,6 +47,7 @@ limit_name (limits.Code number) = codes "limit code "
 limit_name (limits.Traces number) = codes "limit traces "
 limit_name (limits.Lines number) = codes "limit lines "
 
+-- the number of a limit
 abbrev pub limit_number : Limit → ℕ
 limit_number (limits.File number) = number
 limit_number (limits.Edges number) = number
@@ -63,11 +65,13 @@ limit_text limit = limit_name limit ++ (decimal (limit_number limit) ++ codes "\
 abbrev pub refused_text : ℕ → ℕ → ℕ → List ℕ
 refused_text at number place = decimal at ++ (codes " " ++ (decimal number ++ (codes " " ++ (decimal place ++ codes "\n"))))
 
+-- a file or a line of a script is refused, or a limit is passed
 abbrev pub cause_text : Cause → List ℕ
 cause_text (RefusedWord word number place) = codes "refused word " ++ refused_text word number place
 cause_text (RefusedLine line number place) = codes "refused line " ++ refused_text line number place
 cause_text (Limited limit) = limit_text limit
 
+-- why work is not done
 abbrev pub halt_text : Halt → List ℕ
 halt_text (Because cause) = cause_text cause
 halt_text (Outside object) = object_text object
@@ -82,6 +86,7 @@ abbrev pub end_line : WorkEnd → Option (List ℕ)
 end_line (Ok done) = done.line
 end_line (Err halt) = Some (halt_text halt)
 
+-- the bytes of a line: none, where there is no line
 abbrev pub line_text : Option (List ℕ) → List ℕ
 line_text None = []
 line_text (Some text) = text
@@ -92,21 +97,25 @@ end_text end = line_text (end_line end)
 
 -- ---- the statuses
 
+-- of work that is done
 abbrev pub finish_status : Finish → ℕ
 finish_status finishes.Done = 0
 finish_status finishes.Fault = 5
 finish_status finishes.Budget = 6
 
+-- of a refusal, and of a limit
 abbrev pub cause_status : Cause → ℕ
 cause_status (RefusedWord word number place) = 2
 cause_status (RefusedLine line number place) = 2
 cause_status (Limited limit) = 7
 
+-- of work that is not done
 abbrev pub halt_status : Halt → ℕ
 halt_status (Because cause) = cause_status cause
 halt_status (Outside object) = 3
 halt_status Memory = 4
 
+-- of an end, where its line is given
 abbrev pub end_status : WorkEnd → ℕ
 end_status (Ok done) = finish_status done.finish
 end_status (Err halt) = halt_status halt

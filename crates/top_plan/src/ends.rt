@@ -1,5 +1,7 @@
 //! How the work of a command ends.
 
+use std::alloc::AllocError;
+
 /// An object of the outside.
 #[derive(Clone, Copy, Debug, PartialEq, Eq)]
 pub enum Object {
@@ -66,6 +68,17 @@ pub enum Halt {
     Outside(Object),
     /// Want of memory.
     Memory,
+}
+
+impl From<AllocError> for Halt {
+    ghost use Rattle.std.specs.Prelude.{◌≡◌};
+    ghost use Rattle.top_plan.specs.declared.ends.Halt.TheVariants.{Memory};
+
+    ghost from_gives = { λ _ error. error ≡ Memory };
+
+    fn from(_error: AllocError) -> Halt {
+        Halt::Memory
+    }
 }
 
 /// How work that is done ends.

@@ -43,10 +43,10 @@ fn number_before(number: u32, line: &mut [u8], end: usize) -> usize
 
 /// Writes a number and LF at the end of the line.
 fn last_number(number: u32, line: &mut [u8]) -> usize
-    requires { length line.old ≡ 64 }
-    ensures start { (53 ≤ result) × (result ≤ 64) }
+    requires { length line.old ≡ LINE_ROOM }
+    ensures start { (53 ≤ result) × (result ≤ LINE_ROOM) }
     ensures written { drop result line.new ≡ decimal number ++ codes "\n" }
-    ensures room { length line.new ≡ 64 }
+    ensures room { length line.new ≡ LINE_ROOM }
 {
     let end = text_before(b"\n", line, LINE_ROOM);
     number_before(number, line, end)
@@ -54,10 +54,10 @@ fn last_number(number: u32, line: &mut [u8]) -> usize
 
 /// Writes where a refusal stands, its number and its place at the end of the line.
 fn refusal(at: u32, number: u32, place: u32, line: &mut [u8]) -> usize
-    requires { length line.old ≡ 64 }
-    ensures start { (31 ≤ result) × (result ≤ 64) }
+    requires { length line.old ≡ LINE_ROOM }
+    ensures start { (31 ≤ result) × (result ≤ LINE_ROOM) }
     ensures written { drop result line.new ≡ refused_text at number place }
-    ensures room { length line.new ≡ 64 }
+    ensures room { length line.new ≡ LINE_ROOM }
 {
     let end = last_number(place, line);
     let end = text_before(b" ", line, end);
@@ -99,10 +99,10 @@ impl Limit {
 
     /// Writes the report line at the end of a piece, where the limit is passed, and answers where it begins.
     fn write(self, line: &mut [u8]) -> usize
-        requires { length line.old ≡ 64 }
-        ensures start { result ≤ 64 }
+        requires { length line.old ≡ LINE_ROOM }
+        ensures start { result ≤ LINE_ROOM }
         ensures written { drop result line.new ≡ limit_text self }
-        ensures room { length line.new ≡ 64 }
+        ensures room { length line.new ≡ LINE_ROOM }
     {
         let end = last_number(self.number(), line);
         text_before(self.name().as_bytes(), line, end)
@@ -112,10 +112,10 @@ impl Limit {
 impl Cause {
     /// Writes the report line of a cause at the end of a piece, and answers where it begins.
     pub fn write(self, line: &mut [u8]) -> usize
-        requires { length line.old ≡ 64 }
-        ensures start { result ≤ 64 }
+        requires { length line.old ≡ LINE_ROOM }
+        ensures start { result ≤ LINE_ROOM }
         ensures written { drop result line.new ≡ cause_text self }
-        ensures room { length line.new ≡ 64 }
+        ensures room { length line.new ≡ LINE_ROOM }
     {
         match self {
             Cause::RefusedWord {
@@ -141,10 +141,10 @@ impl Cause {
 
 /// Writes the report line of words that are no command at the end of a piece, and answers where it begins.
 pub fn write_usage(word: u32, line: &mut [u8]) -> usize
-    requires { length line.old ≡ 64 }
-    ensures start { result ≤ 64 }
+    requires { length line.old ≡ LINE_ROOM }
+    ensures start { result ≤ LINE_ROOM }
     ensures written { drop result line.new ≡ usage_text word }
-    ensures room { length line.new ≡ 64 }
+    ensures room { length line.new ≡ LINE_ROOM }
 {
     let end = last_number(word, line);
     text_before(b"usage ", line, end)

@@ -8,8 +8,8 @@ use Rattle.guest_sys.specs.Calls.{spare}
 use Rattle.guest_sys.specs.Machine.{fed, bare}
 use Rattle.run_model.specs.Run.{run}
 use Rattle.guest_run.specs.Guest.{GuestView, while_running, steps_taken, undefined_taken, reads_undefined, ahead, asks_next}
-use Rattle.guest_run.proofs.Composed.{running_some, run_none, steps_none, undefined_none, steps_first, undefined_first}
-use Rattle.guest_run.proofs.Shown.{shown, run_shown, steps_shown, undefined_shown, ahead_shown, shown_bare}
+use Rattle.guest_run.proofs.StoppedRuns.{running_some, run_none, steps_none, undefined_none, steps_first, undefined_first}
+use Rattle.guest_run.proofs.EarlierBytes.{shown, run_shown, steps_shown, undefined_shown, ahead_shown, shown_bare}
 use Rattle.top_plan.specs.Expected.{Ending, ends_with, turned_before, expected}
 use Rattle.top_run.specs.RunPlan.{guest_plan, next_guest, next_turn, finished}
 use Rattle.top_run.proofs.GuestRuns.{has_stopped, runs, none_left}

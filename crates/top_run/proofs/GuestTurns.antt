@@ -14,7 +14,9 @@ use Rattle.top_run.specs.RunPlan.{guest_plan, next_guest, next_turn, stands, run
 use Rattle.trace_file.specs.Edges.{Edge}
 use Rattle.top_files.specs.OriginalPart.{of_word, with_digest}
 use Rattle.tracer.specs.declared.answers.Traced.{Traced}
-use Rattle.tracer.specs.Tour.{traced, with_step, edge_limit, entry_edge}
+use Rattle.tracer.specs.TracedRun.{traced, with_step, entry_edge}
+use Rattle.trace_file.specs.declared.limits.TheConstants.{FILE_EDGE_LIMIT}
+use Rattle.guest_run.specs.InputUse.{StepsUseInput}
 use Rattle.top_run.specs.TracePlan.{tour_plan, unless_full, traced_part, trace_plan}
 use Rattle.top_run.proofs.GuestRuns.{has_stopped}
 use Rattle.top_run.proofs.InputUsed.{guest_uses}
@@ -67,8 +69,8 @@ tour_turns P last (suc n) g es each quiet ends =
     let now : List ℕ → List Edge = λ left. with_step (next_guest g left).edge es in
     while_turns P g.state.stop (Turns (next_turn g) (λ left. unless_full (tour_plan last n (next_guest g left)) (now left))) (last (traced g es))
     (λ running left. (
-      unless_too_many (λ p. AllTurns P p) (nat_le (length (now left)) edge_limit) _ _ (tour_turns P last n (next_guest g left) (now left) each quiet ends) tt,
-      each g left _ running (λ not. unless_too_many (λ p. NoInput p) (nat_le (length (now left)) edge_limit) _ _ (tour_quiet last n (next_guest g left) (now left) quiet not) tt),
+      unless_too_many (λ p. AllTurns P p) (nat_le (length (now left)) FILE_EDGE_LIMIT) _ _ (tour_turns P last n (next_guest g left) (now left) each quiet ends) tt,
+      each g left _ running (λ not. unless_too_many (λ p. NoInput p) (nat_le (length (now left)) FILE_EDGE_LIMIT) _ _ (tour_quiet last n (next_guest g left) (now left) quiet not) tt),
     ))
     (ends (traced g es))
 
@@ -84,15 +86,15 @@ spares rest k (Faulted f) quiet = inr (quiet (λ running. cc))
 abbrev IsGood : Turned → List ℕ → Plan → Type 0
 IsGood turned left rest = Uses turned left × ((turned.spare ≡ 0) ⊎ NoInput rest)
 
-are_good : OfGuests IsGood
-are_good g left rest running quiet = (guest_uses g left running, spares rest (asks_next (step (fed left g.state) 0)) (step (fed left g.state) 0).stop quiet)
+are_good : StepsUseInput → OfGuests IsGood
+are_good law g left rest running quiet = (guest_uses law g left running, spares rest (asks_next (step (fed left g.state) 0)) (step (fed left g.state) 0).stop quiet)
 
-pub run_orderly : (steps : ℕ) (name : List ℕ) (args : List (List ℕ)) (word : ℕ) → IsOrderly (run_plan steps name args word)
+pub run_orderly : StepsUseInput → (steps : ℕ) (name : List ℕ) (args : List (List ℕ)) (word : ℕ) → IsOrderly (run_plan steps name args word)
 unfolding AllTurns
-run_orderly steps name args word = λ bytes. checked_turns IsGood (of_word word (elf Guest bytes)) _ (λ exe. guest_turns IsGood steps (beginning exe args) are_good)
+run_orderly law steps name args word = λ bytes. checked_turns IsGood (of_word word (elf Guest bytes)) _ (λ exe. guest_turns IsGood steps (beginning exe args) (are_good law))
 
-pub trace_orderly : (steps : ℕ) (target original : List ℕ) (args : List (List ℕ)) (word : ℕ) → IsOrderly (trace_plan steps target original args word)
+pub trace_orderly : StepsUseInput → (steps : ℕ) (target original : List ℕ) (args : List (List ℕ)) (word : ℕ) → IsOrderly (trace_plan steps target original args word)
 unfolding AllTurns NoInput
-trace_orderly steps target original args word =
+trace_orderly law steps target original args word =
     λ bytes. checked_turns IsGood (with_digest bytes (of_word word (elf Original bytes))) _
-    (λ subject. tour_turns IsGood (traced_part target subject.digest) steps (beginning subject.exe args) (entry_edge subject.exe ∷ []) are_good (λ t. tt) (λ t. tt))
+    (λ subject. tour_turns IsGood (traced_part target subject.digest) steps (beginning subject.exe args) (entry_edge subject.exe ∷ []) (are_good law) (λ t. tt) (λ t. tt))

@@ -3,6 +3,7 @@ pub mod GuestRuns
 pub mod GuestTurns
 pub mod GuestEnds
 pub mod RunMeant
+pub mod EdgesOfSteps
 pub mod TourRuns
 pub mod TourEnds
 pub mod TraceMeant

@@ -1,5 +1,6 @@
 -- What the turns of a traced guest come to is its run, up to the step in which its edges are too many.
 use Rattle.std.proofs.Common.{◌≡◌, ◌<◌, ◌≤◌, ℕ, zero, suc, List, length, Err, sym, ◌∙◌, ap, arith}
+use Rattle.trace_file.specs.declared.limits.TheConstants.{FILE_EDGE_LIMIT}
 use Rattle.br_word.specs.State.{State, Running}
 use Rattle.ia_inst.specs.Step.{step}
 use Rattle.br_outside.specs.Files.{Files}
@@ -8,8 +9,8 @@ use Rattle.run_model.specs.Edges.{edge_of, edges_from}
 use Rattle.guest_run.specs.Guest.{GuestView, answer_of}
 use Rattle.trace_file.specs.Edges.{Edge, collected}
 use Rattle.tracer.specs.declared.answers.Traced.{Traced}
-use Rattle.tracer.specs.Tour.{with_step, edge_limit}
-use Rattle.tracer.proofs.Onward.{all_rest, collected_append, collected_step, edges_after, after_none}
+use Rattle.tracer.specs.TracedRun.{with_step}
+use Rattle.top_run.proofs.EdgesOfSteps.{all_rest, collected_append, collected_step, edges_after, after_none}
 use Rattle.top_plan.specs.Plan.{Plan}
 use Rattle.top_plan.specs.Expected.{ends_with, turned_before, expected}
 use Rattle.top_run.specs.RunPlan.{next_guest, next_turn}
@@ -39,7 +40,7 @@ edges_step n g left es =
 
 -- the edges are not too many before the k-th step
 abbrev pub AreFew : ℕ → State → List Edge → Type 0
-AreFew k s es = (j : ℕ) → j < k → length (edges_after j s es) ≤ edge_limit
+AreFew k s es = (j : ℕ) → j < k → length (edges_after j s es) ≤ FILE_EDGE_LIMIT
 
 few_next : (k : ℕ) (g : GuestView) (left : List ℕ) (es : List Edge) → AreFew (suc k) (fed left g.state) es → AreFew k (after_turn g left) (next_edges g left es)
 few_next k g left es few j less = let h = few (suc j) (omega (arith, less)) in omega (arith, h, ap length (edges_step j g left es))
@@ -47,11 +48,11 @@ few_next k g left es few j less = let h = few (suc j) (omega (arith, less)) in o
 -- ---- the plan
 
 -- the edges are not too many
-fits : (next : List Edge → Plan) (es : List Edge) (files : Files) (left : List ℕ) → length es ≤ edge_limit → expected (unless_full next es) files left ≡ expected (next es) files left
+fits : (next : List Edge → Plan) (es : List Edge) (files : Files) (left : List ℕ) → length es ≤ FILE_EDGE_LIMIT → expected (unless_full next es) files left ≡ expected (next es) files left
 fits next es files left few = ap (λ p. expected p files left) (has_room next es few)
 
 -- a step of a guest that runs, and then the rest
-turns : (last : Traced → Plan) (n : ℕ) (g : GuestView) (es : List Edge) (files : Files) (left : List ℕ) (rest : Rest) (k : ℕ) → length es ≤ edge_limit → g.state.stop ≡ Running
+turns : (last : Traced → Plan) (n : ℕ) (g : GuestView) (es : List Edge) (files : Files) (left : List ℕ) (rest : Rest) (k : ℕ) → length es ≤ FILE_EDGE_LIMIT → g.state.stop ≡ Running
     → expected (unless_full (tour_plan last n (next_guest g left)) (next_edges g left es)) files (step (fed left g.state) 0).input ≡ ran_before rest k (next_guest g left) (step (fed left g.state) 0).input
     → expected (unless_full (tour_plan last (suc n) g) es) files left ≡ ran_before rest (suc k) g left
 unfolding expected
@@ -85,7 +86,7 @@ abbrev pub full_rest : Files → Rest
 full_rest files stop left steps undefined = ends_with (Err (Because (Limited (limits.Union 2000000)))) files left
 
 pub tour_fills : (last : Traced → Plan) (k n : ℕ) (g : GuestView) (es : List Edge) (files : Files) (left : List ℕ) → IsBare g → k ≤ n → AreFew k (fed left g.state) es
-    → edge_limit < length (edges_after k (fed left g.state) es) → expected (unless_full (tour_plan last n g) es) files left ≡ ran_before (full_rest files) k g left
+    → FILE_EDGE_LIMIT < length (edges_after k (fed left g.state) es) → expected (unless_full (tour_plan last n g) es) files left ≡ ran_before (full_rest files) k g left
 unfolding expected
 tour_fills last zero n g es files left b most few full =
     ap (λ p. expected p files left) (is_full (tour_plan last n g) es full) ∙ no_step (full_rest files) g left b

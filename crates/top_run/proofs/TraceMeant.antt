@@ -12,8 +12,8 @@ use Rattle.run_model.specs.Run.{run}
 use Rattle.guest_run.specs.Guest.{beginning, answer_of, stop_of, steps_taken, undefined_taken}
 use Rattle.trace_file.specs.Trace.{trace_bytes}
 use Rattle.tracer.specs.declared.answers.Traced.{Traced}
-use Rattle.tracer.specs.Tour.{entry_edge}
-use Rattle.tracer.specs.Told.{edges_in}
+use Rattle.tracer.specs.TracedRun.{entry_edge}
+use Rattle.tracer.specs.TraceTold.{edges_in}
 use Rattle.top_plan.specs.World.{World}
 use Rattle.top_plan.specs.Texts.{finish_status}
 use Rattle.top_plan.specs.Parts.{checked}

@@ -1,5 +1,6 @@
 -- What `run` does, in a user's words.
 use Rattle.std.specs.Prelude.{◌≡◌, ◌+◌, ℕ, List, [], ◌++◌, Option, Some, None, Result, Ok, Err}
+use Rattle.elf_read.specs.declared.limits.TheConstants.{GUEST_FILE_LIMIT}
 use Rattle.std.specs.Option.{option_map}
 use Rattle.br_outside.specs.Files.{Files}
 use Rattle.elf_read.specs.Elf.{elf, Refused}
@@ -40,7 +41,7 @@ RunsRead n args word left (Err refused) s result t = IsRefused word refused.numb
 abbrev pub RunsContent : ℕ → List (List ℕ) → ℕ → List ℕ → Option (List ℕ) → World → ℕ → World → Type 0
 RunsContent n args word left None s result t = IsAbsent s result t
 RunsContent n args word left (Some content) s result t =
-    UnlessLong 268435456 content (RunsRead n args word left (elf Guest content) s result t) s result t
+    UnlessLong GUEST_FILE_LIMIT content (RunsRead n args word left (elf Guest content) s result t) s result t
 
 -- What `run` does over a shelf and an input that tell, unless memory is wanting or an object fails: `word` is the position of
 -- the word of the file.

@@ -1,5 +1,6 @@
 -- A guest's run as turns, its last line, and the plan of `run`.
 use Rattle.std.specs.Prelude.{ℕ, zero, suc, List, ◌++◌, codes, Some, Ok, Err, Result, ◌+◌}
+use Rattle.elf_read.specs.declared.limits.TheConstants.{GUEST_FILE_LIMIT}
 use Rattle.std.specs.Fmt.{decimal}
 use Rattle.br_word.specs.declared.types.GuestFault.{GuestFault}
 use Rattle.br_word.specs.declared.types.Width.TheVariants.{B32}
@@ -96,7 +97,7 @@ TakesTurns n g s (Err halt) h t = Went (guest_plan n g) s (Err halt) t
 
 -- a guest is fetched and read
 abbrev pub guest_part : List ℕ → ℕ → (Exe → Plan) → Plan
-guest_part name word next = Fetches name 268435456 (λ bytes. checked (of_word word (elf Guest bytes)) next)
+guest_part name word next = Fetches name GUEST_FILE_LIMIT (λ bytes. checked (of_word word (elf Guest bytes)) next)
 
 -- a guest is read, and takes at most so many steps
 abbrev pub run_plan : ℕ → List ℕ → List (List ℕ) → ℕ → Plan

@@ -1,12 +1,13 @@
 -- A traced run as turns, its last line, and the plan of `trace`.
 use Rattle.std.specs.Prelude.{ℕ, zero, suc, ◌++◌, List, length, nat_le, cond, codes, Some, Err, ◌+◌, [], ◌∷◌, Ok}
+use Rattle.trace_file.specs.declared.limits.TheConstants.{FILE_EDGE_LIMIT}
 use Rattle.std.specs.Fmt.{decimal}
 use Rattle.br_word.specs.State.{RunState}
 use Rattle.guest_run.specs.Guest.{GuestView, while_running, stop_of, beginning}
 use Rattle.trace_file.specs.Edges.{Edge}
 use Rattle.tracer.specs.declared.answers.Traced.{Traced}
 use Rattle.tracer.specs.declared.answers.TracingError.{TracingError}
-use Rattle.tracer.specs.Tour.{traced, with_step, edge_limit, entry_edge}
+use Rattle.tracer.specs.TracedRun.{traced, with_step, entry_edge}
 use Rattle.top_plan.specs.Texts.{Finished}
 use Rattle.top_plan.specs.Plan.{Plan, Ends, Turns, Stores}
 use Rattle.top_run.specs.RunPlan.{stand_text, counts_text, finish_of, next_guest, next_turn}
@@ -33,7 +34,7 @@ traced_as t = record {
 
 -- the guest has these edges, unless they are too many
 abbrev pub unless_full : (List Edge → Plan) → List Edge → Plan
-unless_full next es = cond (nat_le (length es) edge_limit) (next es) (Ends (Err (Limited (limits.Union 2000000))))
+unless_full next es = cond (nat_le (length es) FILE_EDGE_LIMIT) (next es) (Ends (Err (Limited (limits.Union FILE_EDGE_LIMIT))))
 
 -- a guest that has recorded these edges takes at most n steps, as long as it runs
 unfoldable pub tour_plan : (Traced → Plan) → ℕ → GuestView → List Edge → Plan
@@ -47,7 +48,7 @@ abbrev pub halt_of_tracing : TracingError → Halt
 halt_of_tracing errors.Input = Outside objects.Input
 halt_of_tracing errors.Out = Outside objects.Output
 halt_of_tracing errors.Report = Outside objects.Report
-halt_of_tracing errors.Union = Because (Limited (limits.Union 2000000))
+halt_of_tracing errors.Union = Because (Limited (limits.Union FILE_EDGE_LIMIT))
 halt_of_tracing errors.Memory = Memory
 
 -- a traced run is stored as a trace of the original with this digest

@@ -8,6 +8,7 @@ ghost use Rattle.top_run.specs.RunMeaning.{MeansRun};
 ghost use Rattle.top_run.specs.TracePlan.{trace_plan};
 ghost use Rattle.top_run.specs.TraceMeaning.{MeansTrace};
 
+use guest_run::input_is_used;
 use top_plan::plan_law;
 
 /// The plan of `run` is orderly, and what is answered after a run of it means what it is to mean.
@@ -17,6 +18,7 @@ pub fn run_law()
         → Happened (run_plan steps name args word) s result t → MeansRun steps name args word s result t }
 {
     plan_law();
+    input_is_used();
 }
 
 /// The plan of `trace` is orderly, and what is answered after a run of it means what it is to mean.
@@ -27,4 +29,5 @@ pub fn trace_law()
         → Happened (trace_plan steps target original args word) s result t → MeansTrace steps target original args word s result t }
 {
     plan_law();
+    input_is_used();
 }

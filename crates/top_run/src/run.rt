@@ -1,5 +1,5 @@
 //! `run [--steps K] E WORD..`: a guest takes at most K steps.
-ghost use Rattle.std.specs.Prelude.{◌≡◌, ◌≤◌, ◌+◌, ◌^◌, Ok, IfOk, length, true, map, string_bytes};
+ghost use Rattle.std.specs.Prelude.{◌≡◌, ◌≤◌, ◌+◌, Ok, IfOk, length, true, map, string_bytes};
 ghost use Rattle.elf_read.specs.Elf.{elf, IsGuest};
 ghost use Rattle.elf_read.specs.declared.exe.Reach.TheVariants as reaches;
 ghost use Rattle.br_outside.specs.Outside.{ShelfView};
@@ -14,17 +14,16 @@ ghost use Rattle.top_plan.specs.Texts.{end_of};
 
 use crate::lines::{finish_of, last_line};
 use br_outside::{Shelf, Sink, Source};
-use elf_read::{ElfError, Exe, Reach, read_elf};
-use guest_run::{Guest, SysError};
+use elf_read::{ElfError, Exe, GUEST_FILE_LIMIT, Reach, read_elf};
+use guest_run::{Guest, STEP_LIMIT, SysError};
 use std::alloc::Global;
 use top_plan::{Cause, Halt, Object, Outcome, fetch_file};
 
-/// The most bytes of a file that is run.
-const FILE_LIMIT: u32 = 268435456;
-
-/// What a file says as a guest, which is named by this word.
+/// What a file says as a guest.
+///
+/// The error is the refusal, with the position `word` of the word that names the file, or want of memory.
 fn guest_of(alloc: Global, bytes: Vec<u8>, word: u32) -> Result<Exe, Halt>
-    requires { length bytes.items ≤ FILE_LIMIT }
+    requires { length bytes.items ≤ GUEST_FILE_LIMIT }
     ensures checks { Checks (λ exe. exe) result (of_word word (elf reaches.Guest bytes.items)) }
     ensures guest { IfOk result IsGuest }
 {
@@ -39,13 +38,15 @@ fn guest_of(alloc: Global, bytes: Vec<u8>, word: u32) -> Result<Exe, Halt>
     }
 }
 
-/// The guest under a name, which this word is, fetched and read.
+/// The guest under a name, fetched and read. The name stands at the position `word`.
+///
+/// The error is a failure of the shelf, the limit of the file, the refusal, or want of memory.
 fn fetch_guest<F: Shelf>(alloc: Global, shelf: &mut F, name: &str, word: u32) -> Result<Exe, Halt>
     ensures goes { (w : World) → Goes (λ exe. exe) (guest_part name.now word)
         (on_shelf w (F.seen shelf.old)) result (on_shelf w (F.seen shelf.new)) }
     ensures guest { IfOk result IsGuest }
 {
-    let bytes = fetch_file(alloc, shelf, name, FILE_LIMIT)?;
+    let bytes = fetch_file(alloc, shelf, name, GUEST_FILE_LIMIT)?;
     guest_of(alloc, bytes, word)
 }
 
@@ -61,7 +62,7 @@ fn open_guest(alloc: Global, exe: &Exe, args: &[String]) -> Result<Guest, Halt>
     }
 }
 
-/// The stop of the work where a step failed.
+/// How the work ends where a step failed.
 fn halt_of_error(error: SysError) -> Halt
     ensures { result ≡ halt_of_error error }
 {
@@ -74,6 +75,8 @@ fn halt_of_error(error: SysError) -> Halt
 }
 
 /// Lets the guest take steps while it runs, at most `budget` of them.
+///
+/// The error is a failure of the input, the output or the report in a step, or want of memory.
 fn take_turns<I: Source, O: Sink, R: Sink>(
     guest: &mut Guest,
     budget: u64,
@@ -82,7 +85,7 @@ fn take_turns<I: Source, O: Sink, R: Sink>(
     report: &mut R,
 ) -> Result<(), Halt>
     requires live { guest.old.live ≡ true }
-    requires room { guest.old.steps + budget ≤ 10 ^ 18 }
+    requires room { guest.old.steps + budget ≤ STEP_LIMIT }
     ensures { (v : ShelfView) → TakesTurns budget guest.old
         (world v (I.seen input.old) (O.seen out.old) (R.seen report.old)) result
         guest.new (world v (I.seen input.new) (O.seen out.new) (R.seen report.new)) }
@@ -123,7 +126,7 @@ fn run_guest<I: Source, O: Sink, R: Sink>(
 ) -> Result<Outcome, Halt>
     requires fit { FitArguments (map string_bytes args.now) }
     requires guest { IsGuest exe.now }
-    requires few { steps ≤ 10 ^ 18 }
+    requires few { steps ≤ STEP_LIMIT }
     ensures { (v : ShelfView) → Went (guest_plan steps (beginning exe.now (map string_bytes args.now)))
         (world v (I.seen input.old) (O.seen out.old) (R.seen report.old)) (end_of result)
         (world v (I.seen input.new) (O.seen out.new) (R.seen report.new)) }
@@ -134,7 +137,10 @@ fn run_guest<I: Source, O: Sink, R: Sink>(
 }
 
 /// `run [--steps K] E WORD..`: runs the file E, which `word` names, as a guest that is given `args`,
-/// for at most `steps` steps.
+/// for at most `steps` steps, and answers how it stands and the report line.
+///
+/// The error is the first cause in the order of the work: a failure of the shelf, the limit of the file, its refusal, a
+/// failure of the input, the output or the report in the run, or want of memory. What the guest wrote before it was written.
 pub fn run_command<F: Shelf, I: Source, O: Sink, R: Sink>(
     alloc: Global,
     shelf: &mut F,
@@ -147,7 +153,7 @@ pub fn run_command<F: Shelf, I: Source, O: Sink, R: Sink>(
     word: u32,
 ) -> Result<Outcome, Halt>
     requires fit { FitArguments (map string_bytes args.now) }
-    requires few { steps ≤ 10 ^ 18 }
+    requires few { steps ≤ STEP_LIMIT }
     ensures { Went (run_plan steps original.now (map string_bytes args.now) word)
         (world (F.seen shelf.old) (I.seen input.old) (O.seen out.old) (R.seen report.old)) (end_of result)
         (world (F.seen shelf.new) (I.seen input.new) (O.seen out.new) (R.seen report.new)) }

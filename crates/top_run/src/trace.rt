@@ -1,10 +1,10 @@
 //! `trace [--steps K] T E WORD..`: a guest takes at most K steps, and their edges are stored.
-ghost use Rattle.std.specs.Prelude.{◌≡◌, ◌≤◌, ◌^◌, Ok, IfOk, [], ◌∷◌, length, map, string_bytes};
+ghost use Rattle.std.specs.Prelude.{◌≡◌, ◌≤◌, Ok, IfOk, [], ◌∷◌, length, map, string_bytes};
 ghost use Rattle.elf_read.specs.Elf.{IsGuest};
 ghost use Rattle.br_outside.specs.Outside.{ShelfView};
 ghost use Rattle.guest_run.specs.Guest.{beginning, stop_of};
 ghost use Rattle.run_model.specs.Opening.{FitArguments};
-ghost use Rattle.tracer.specs.Tour.{entry_edge};
+ghost use Rattle.tracer.specs.TracedRun.{entry_edge};
 ghost use Rattle.top_plan.specs.World.{World, on_shelf, world};
 ghost use Rattle.top_plan.specs.Plan.{Went};
 ghost use Rattle.top_plan.specs.Parts.{Goes, Checks};
@@ -14,12 +14,14 @@ ghost use Rattle.top_plan.specs.Texts.{end_of};
 use crate::lines::{finish_of, traced_line};
 use br_outside::{Shelf, Sink, Source};
 use elf_read::Exe;
+use guest_run::STEP_LIMIT;
 use std::alloc::Global;
-use top_files::{UNION_LIMIT, fetch_subject, store_trace};
+use top_files::{fetch_subject, store_trace};
 use top_plan::{Cause, Halt, Limit, Object, Outcome};
+use trace_file::FILE_EDGE_LIMIT;
 use tracer::{Traced, TracingError, trace};
 
-/// The stop of the work where a run was not traced to its end.
+/// How the work ends where a run was not traced to its end.
 fn halt_of_tracing(error: TracingError) -> Halt
     ensures { result ≡ halt_of_tracing error }
 {
@@ -27,7 +29,7 @@ fn halt_of_tracing(error: TracingError) -> Halt
         TracingError::Input => Halt::Outside(Object::Input),
         TracingError::Out => Halt::Outside(Object::Output),
         TracingError::Report => Halt::Outside(Object::Report),
-        TracingError::Union => Halt::Because(Cause::Limited(Limit::Union(UNION_LIMIT))),
+        TracingError::Union => Halt::Because(Cause::Limited(Limit::Union(FILE_EDGE_LIMIT))),
         TracingError::Memory => Halt::Memory,
     }
 }
@@ -44,12 +46,12 @@ fn trace_guest<I: Source, O: Sink, R: Sink>(
 ) -> Result<Traced, Halt>
     requires fit { FitArguments (map string_bytes args.now) }
     requires guest { IsGuest exe.now }
-    requires few { steps ≤ 10 ^ 18 }
+    requires few { steps ≤ STEP_LIMIT }
     ensures goes { (v : ShelfView) → Goes (λ t. t)
         (λ last. tour_plan last steps (beginning exe.now (map string_bytes args.now)) (entry_edge exe.now ∷ []))
         (world v (I.seen input.old) (O.seen out.old) (R.seen report.old)) result
         (world v (I.seen input.new) (O.seen out.new) (R.seen report.new)) }
-    ensures few { IfOk result (λ t. length t.edges ≤ UNION_LIMIT) }
+    ensures few { IfOk result (λ t. length t.edges ≤ FILE_EDGE_LIMIT) }
 {
     match trace(alloc, exe, args, steps, input, out, report) {
         Ok(traced) => Ok(traced),
@@ -79,7 +81,7 @@ fn store_traced<F: Shelf>(
     traced: &Traced,
     digest: &[u8; 32],
 ) -> Result<Outcome, Halt>
-    requires { length traced.now.edges ≤ UNION_LIMIT }
+    requires { length traced.now.edges ≤ FILE_EDGE_LIMIT }
     ensures { (w : World) → Went (traced_part target.now digest.now traced.now)
         (on_shelf w (F.seen shelf.old)) (end_of result) (on_shelf w (F.seen shelf.new)) }
 {
@@ -111,7 +113,7 @@ pub fn trace_command<F: Shelf, I: Source, O: Sink, R: Sink>(
     word: u32,
 ) -> Result<Outcome, Halt>
     requires fit { FitArguments (map string_bytes args.now) }
-    requires few { steps ≤ 10 ^ 18 }
+    requires few { steps ≤ STEP_LIMIT }
     ensures { Went (trace_plan steps target.now original.now (map string_bytes args.now) word)
         (world (F.seen shelf.old) (I.seen input.old) (O.seen out.old) (R.seen report.old)) (end_of result)
         (world (F.seen shelf.new) (I.seen input.new) (O.seen out.new) (R.seen report.new)) }

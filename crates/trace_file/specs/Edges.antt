@@ -1,5 +1,6 @@
 -- Control-flow edges, and lists of them in order.
-use Rattle.std.specs.Prelude.{◌≡◌, ℕ, ◌≤◌, ◌↔◌, Bool, true, ◌||◌, ◌&&◌, nat_eq, nat_lt, if◌then◌else◌, List, [], ◌∷◌, length, sum_by, All, Contains}
+use Rattle.std.specs.Prelude.{◌≡◌, ℕ, ◌≤◌, ◌↔◌, ◌⊎◌, Bool, true, ◌||◌, ◌&&◌, nat_eq, nat_lt, if◌then◌else◌, List, [], ◌∷◌, length, sum_by, All, Contains}
+use Rattle.trace_file.specs.declared.limits.TheConstants.{EDGE_LIMIT}
 
 -- the address of a transfer, the site, and the address that it led to, the target
 abbrev pub Edge : Type 0
@@ -14,6 +15,7 @@ abbrev pub ascends_after : Edge → List Edge → Bool
 ascends_after a [] = true
 ascends_after a (b ∷ bs) = before a b && ascends_after b bs
 
+-- the list ascends strictly
 abbrev pub ascends : List Edge → Bool
 ascends [] = true
 ascends (a ∷ es) = ascends_after a es
@@ -21,12 +23,13 @@ ascends (a ∷ es) = ascends_after a es
 -- a list that a set of edges may have
 pub record IsEdges (es : List Edge) : Type 0 where
   pub order : ascends es ≡ true
-  pub count : length es ≤ 16777216
+  pub count : length es ≤ EDGE_LIMIT
 
 -- an edge put before the rest, or where it belongs in the other list
 abbrev pub step : Edge → (List Edge → List Edge) → List Edge → List Edge
 step a rest [] = a ∷ rest []
-step a rest (b ∷ bs) = if before a b then (a ∷ rest (b ∷ bs)) else (if before b a then (b ∷ step a rest bs) else (a ∷ rest bs))
+step a rest (b ∷ bs) =
+    if before a b then (a ∷ rest (b ∷ bs)) else (if before b a then (b ∷ step a rest bs) else (a ∷ rest bs))
 
 -- two ascending lists as one
 abbrev pub merge : List Edge → List Edge → List Edge
@@ -57,6 +60,7 @@ pairs sets = sum_by length sets
 
 -- ---- what these lists are
 
+-- strictly ascending, so each edge once
 abbrev pub IsInOrder : List Edge → Type 0
 IsInOrder es = ascends es ≡ true
 
@@ -64,6 +68,11 @@ IsInOrder es = ascends es ≡ true
 pub record IsSetOf (Holds : Edge → Type 0) (made : List Edge) : Type 0 where
   pub order : IsInOrder made
   pub members : (e : Edge) → Contains made e ↔ Holds e
+
+-- an edge is in the union exactly where it is in one of the two
+abbrev pub IsInBoth : List Edge → List Edge → List Edge → Edge → Type 0
+IsInBoth left right all e =
+    (Contains all e → Contains left e ⊎ Contains right e) × (Contains left e ⊎ Contains right e → Contains all e)
 
 -- an edge is in one of the sets
 abbrev pub IsInSome : List (List Edge) → Edge → Type 0

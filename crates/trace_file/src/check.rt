@@ -5,11 +5,12 @@ ghost use Rattle.trace_file.specs.Reads.{Says};
 
 use crate::error::TraceError;
 use crate::field::{
-    COUNT_PLACE, MAGIC, MOST_RECORDS, RECORD_SIZE, RECORDS_PLACE, read_digest, read_record,
-    read_word,
+    COUNT_PLACE, MAGIC, RECORD_SIZE, RECORDS_PLACE, read_digest, read_record, read_word,
 };
+use crate::limits::FILE_EDGE_LIMIT;
 use crate::order::is_before;
 
+/// The refusal of a number at a place.
 fn refused(number: u8, place: u32) -> TraceError
     ensures { result ≡ TraceError.Refused number place }
 {
@@ -33,7 +34,7 @@ fn magic_place(bytes: &[u8]) -> Option<u32>
 fn check_head(bytes: &[u8], digest: &[u8; 32]) -> Result<u32, TraceError>
     ensures refused { Says bytes.now digest.now result (early_refusal bytes.now digest.now None) }
     ensures count { IfOk result (λ n. n ≡ count_of bytes.now) }
-    ensures most { IfOk result (λ n. n ≤ 2000000) }
+    ensures most { IfOk result (λ n. n ≤ FILE_EDGE_LIMIT) }
     ensures size { IfOk result (λ n. 44 + 8 * n ≤ length bytes.now) }
 {
     if let Some(place) = magic_place(bytes) {
@@ -47,7 +48,7 @@ fn check_head(bytes: &[u8], digest: &[u8; 32]) -> Result<u32, TraceError>
         return Err(TraceError::Other { found });
     }
     let count = read_word(bytes, COUNT_PLACE);
-    if count > MOST_RECORDS {
+    if count > FILE_EDGE_LIMIT {
         return Err(refused(26, COUNT_PLACE));
     }
     if bytes.len() < (RECORDS_PLACE + RECORD_SIZE * count) as usize {
@@ -59,7 +60,7 @@ fn check_head(bytes: &[u8], digest: &[u8; 32]) -> Result<u32, TraceError>
 /// The place of the first record that is not above the one before it.
 fn disorder_place(bytes: &[u8], count: u32) -> Option<u32>
     requires count { count ≡ count_of bytes.now }
-    requires most { count ≤ 2000000 }
+    requires most { count ≤ FILE_EDGE_LIMIT }
     requires size { 44 + 8 * count ≤ length bytes.now }
     ensures { result ≡ disorder 44 (records_of bytes.now) }
 {
@@ -80,7 +81,7 @@ fn disorder_place(bytes: &[u8], count: u32) -> Option<u32>
 /// The refusals of the records.
 fn check_records(bytes: &[u8], digest: &[u8; 32], count: u32) -> Result<(), TraceError>
     requires count { count ≡ count_of bytes.now }
-    requires most { count ≤ 2000000 }
+    requires most { count ≤ FILE_EDGE_LIMIT }
     requires size { 44 + 8 * count ≤ length bytes.now }
     ensures { Says bytes.now digest.now result (late_refusal bytes.now) }
 {
@@ -98,7 +99,7 @@ fn check_records(bytes: &[u8], digest: &[u8; 32], count: u32) -> Result<(), Trac
 pub fn check_trace(bytes: &[u8], digest: &[u8; 32]) -> Result<u32, TraceError>
     ensures refused { Says bytes.now digest.now result (refusal bytes.now digest.now) }
     ensures count { IfOk result (λ n. n ≡ count_of bytes.now) }
-    ensures most { IfOk result (λ n. n ≤ 2000000) }
+    ensures most { IfOk result (λ n. n ≤ FILE_EDGE_LIMIT) }
     ensures size { IfOk result (λ n. 44 + 8 * n ≤ length bytes.now) }
 {
     let count = check_head(bytes, digest)?;

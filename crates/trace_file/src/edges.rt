@@ -5,7 +5,7 @@ use std::marker::Model;
 
 /// A set of control-flow edges: pairs of the address of a transfer, the site, and the address that it
 /// led to, the target. The pair of 0 and a file's entry says that a run began. It is seen as the list of
-/// its pairs, strictly ascending by site and then by target, of at most 16777216.
+/// its pairs, strictly ascending by site and then by target, of at most [`EDGE_LIMIT`](crate::EDGE_LIMIT).
 #[derive(Drop)]
 pub struct Edges {
     list: Vec<(u32, u32)>,
@@ -23,8 +23,9 @@ impl Model for Edges {
 }
 
 impl Edges {
-    ghost use Rattle.std.specs.Prelude.{◌≡◌, ℕ, ◌+◌, ◌<◌, ◌≤◌, ◌↔◌, ◌⊎◌, IsTrue, IfOk, Some, List, [], length, slice_get, Contains};
-    ghost use Rattle.trace_file.specs.Edges.{Edge, IsEdges, merge};
+    ghost use Rattle.std.specs.Prelude.{◌≡◌, ℕ, ◌+◌, ◌<◌, ◌≤◌, ◌↔◌, IsTrue, IfOk, Some, List, [], length, slice_get, Contains};
+    ghost use Rattle.trace_file.specs.declared.limits.TheConstants.{EDGE_LIMIT};
+    ghost use Rattle.trace_file.specs.Edges.{Edge, IsEdges, merge, IsInBoth};
 
     /// No edges. It takes no memory.
     pub fn new(alloc: Global) -> Self
@@ -35,8 +36,8 @@ impl Edges {
         }
     }
 
-    /// The edges of a list that strictly ascends by site and then by target, of at most 16777216. It
-    /// takes no memory.
+    /// The edges of a list that strictly ascends by site and then by target, of at most
+    /// [`EDGE_LIMIT`](crate::EDGE_LIMIT). It takes no memory.
     pub fn of_list(list: Vec<(u32, u32)>) -> Self
         requires { IsEdges list.items }
         ensures { result ≡ list.items }
@@ -44,7 +45,7 @@ impl Edges {
         Edges { list }
     }
 
-    /// How many there are, at most 16777216.
+    /// How many there are, at most [`EDGE_LIMIT`](crate::EDGE_LIMIT).
     pub fn len(&self) -> u32
         ensures value { result ≡ length self.now }
         ensures edges { IsEdges self.now }
@@ -86,16 +87,17 @@ impl Edges {
         low < self.list.len() && !is_before(edge, self.list[low])
     }
 
-    /// The edges of both, in one pass. Together they have at most 16777216, an edge of both counted
-    /// twice.
+    /// The edges of both, in one pass. Together they have at most [`EDGE_LIMIT`](crate::EDGE_LIMIT), an
+    /// edge of both counted twice.
     ///
-    /// The only error is want of memory.
-    pub fn union(&self, alloc: Global, other: &Edges) -> Result<Edges, AllocError>
-        requires { length self.now + length other.now ≤ 16777216 }
+    /// Errors: only for want of memory.
+    pub fn union(&self, other: &Edges) -> Result<Edges, AllocError>
+        requires { length self.now + length other.now ≤ EDGE_LIMIT }
         ensures value { IfOk result (λ all. all ≡ merge self.now other.now) }
-        ensures members { IfOk result (λ all. (e : Edge) → (Contains all e → Contains self.now e ⊎ Contains other.now e) × (Contains self.now e ⊎ Contains other.now e → Contains all e)) }
+        ensures members { IfOk result (λ all. (e : Edge) → IsInBoth self.now other.now all e) }
         ensures edges { IfOk result IsEdges }
     {
+        let alloc = *self.list.allocator();
         let list = merged(alloc, &self.list, &other.list)?;
         Ok(Edges { list })
     }

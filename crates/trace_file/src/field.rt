@@ -1,5 +1,6 @@
 //! The parts of a trace file, whose numbers have the lowest byte first.
 ghost use Rattle.std.specs.Prelude.{◌≡◌, ◌+◌, ◌*◌, ◌≤◌, ◌<◌, ◌^◌, ◌++◌, length, get_or, OnOk};
+ghost use Rattle.trace_file.specs.declared.limits.TheConstants.{FILE_EDGE_LIMIT};
 ghost use Rattle.trace_file.specs.Trace.{word_at, word, record_at, count_of, records_of, stored_digest};
 
 use byteorder::{ByteOrder, LittleEndian};
@@ -15,9 +16,8 @@ pub const COUNT_PLACE: u32 = 40;
 pub const RECORDS_PLACE: u32 = 44;
 /// The bytes of a record.
 pub const RECORD_SIZE: u32 = 8;
-/// The most records of a file.
-pub const MOST_RECORDS: u32 = 2000000;
 
+/// The 32-bit number at an offset.
 #[tactic(auto, unfolding(crate::specs::Trace::word_at))]
 pub fn read_word(bytes: &[u8], at: u32) -> u32
     requires { at + 4 ≤ length bytes.now }
@@ -29,7 +29,7 @@ pub fn read_word(bytes: &[u8], at: u32) -> u32
 /// The record at an index: a site and a target.
 pub fn read_record(bytes: &[u8], index: u32) -> (u32, u32)
     requires index { index < count_of bytes.now }
-    requires count { count_of bytes.now ≤ 2000000 }
+    requires count { count_of bytes.now ≤ FILE_EDGE_LIMIT }
     requires size { 44 + 8 * count_of bytes.now ≤ length bytes.now }
     ensures { result ≡ get_or (records_of bytes.now) index result }
 {
@@ -47,6 +47,7 @@ pub fn read_digest(bytes: &[u8]) -> [u8; 32]
     found
 }
 
+/// Appends a 32-bit number.
 #[tactic(auto, unfolding(crate::specs::Trace::word))]
 pub fn push_word(out: &mut Vec<u8>, value: u32) -> Result<(), AllocError>
     ensures bytes { OnOk result (out.new.items ≡ out.old.items ++ word value) }

@@ -1,5 +1,6 @@
 //! The order of edges, and the union of two lists that are in order.
 ghost use Rattle.std.specs.Prelude.{◌≡◌, ◌+◌, ◌≤◌, ◌^◌, IfOk, length};
+ghost use Rattle.trace_file.specs.declared.limits.TheConstants.{EDGE_LIMIT};
 ghost use Rattle.trace_file.specs.Edges.{before, merge};
 
 use std::alloc::{AllocError, Global};
@@ -17,7 +18,7 @@ pub fn merged(
     left: &[(u32, u32)],
     right: &[(u32, u32)],
 ) -> Result<Vec<(u32, u32)>, AllocError>
-    requires { length left.now + length right.now ≤ 16777216 }
+    requires { length left.now + length right.now ≤ EDGE_LIMIT }
     ensures { IfOk result (λ all. all.items ≡ merge left.now right.now) }
 {
     let mut all = Vec::with_capacity(alloc, left.len() + right.len())?;

@@ -1,5 +1,6 @@
 //! Trace files are read.
 ghost use Rattle.std.specs.Prelude.{◌≡◌, ◌+◌, ◌*◌, ◌≤◌, length, IfOk};
+ghost use Rattle.trace_file.specs.declared.limits.TheConstants.{FILE_EDGE_LIMIT};
 ghost use Rattle.trace_file.specs.Trace.{count_of, records_of};
 ghost use Rattle.trace_file.specs.Reads.{ReadsTrace};
 
@@ -12,7 +13,7 @@ use std::alloc::{AllocError, Global};
 /// The records of a file.
 fn load_records(alloc: Global, bytes: &[u8], count: u32) -> Result<Vec<(u32, u32)>, AllocError>
     requires count { count ≡ count_of bytes.now }
-    requires most { count ≤ 2000000 }
+    requires most { count ≤ FILE_EDGE_LIMIT }
     requires size { 44 + 8 * count ≤ length bytes.now }
     ensures { IfOk result (λ list. list.items ≡ records_of bytes.now) }
 {

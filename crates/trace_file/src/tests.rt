@@ -1,5 +1,5 @@
 //! Examples from outside: a file of the format, its damaged forms, and a digest that sha256sum printed.
-use crate::{Edges, TraceError, digest, read_trace, union_all, write_trace};
+use crate::{Edges, FILE_EDGE_LIMIT, TraceError, digest, read_trace, union_all, write_trace};
 use std::alloc::{AllocError, Global};
 use std::test::Fail;
 
@@ -47,7 +47,7 @@ fn reads_and_writes(rt: HostRuntime) -> Result<(), Fail> {
     assert_eq!(rt; edges.as_slice(), [(0, 0x08048054)].as_slice());
     assert!(rt; edges.has(0, 0x08048054));
     assert!(rt; !edges.has(0, 0x08048053));
-    assert!(rt; edges.len() <= 2000000);
+    assert!(rt; edges.len() <= FILE_EDGE_LIMIT);
     let written = write_trace(alloc, &edges, &DIGEST)?;
     assert_eq!(rt; written.as_slice(), TRACE);
     Ok(())
@@ -81,13 +81,13 @@ fn joins(rt: HostRuntime) -> Result<(), Fail> {
     let alloc = rt.alloc();
     let left = Edges::of_list(vec![in alloc; (0, 7), (5, 1), (9, 2)]?);
     let right = Edges::of_list(vec![in alloc; (0, 7), (5, 0), (5, 2), (10, 0)]?);
-    let both = left.union(alloc, &right)?;
+    let both = left.union(&right)?;
     assert_eq!(rt;
         both.as_slice(),
         [(0, 7), (5, 0), (5, 1), (5, 2), (9, 2), (10, 0)].as_slice()
     );
     let none = Edges::new(alloc);
-    assert_eq!(rt; none.union(alloc, &left)?.len(), 3);
+    assert_eq!(rt; none.union(&left)?.len(), 3);
     Ok(())
 }
 

@@ -1,5 +1,4 @@
-pub mod Recorded
-pub mod Tours
-pub mod Onward
-pub mod Courses
-pub mod Telling
+pub mod EdgeSets
+pub mod MoreEdges
+pub mod LoopSteps
+pub mod TraceOfRun

@@ -1,3 +1,3 @@
-pub mod Tour
-pub mod Told
+pub mod TracedRun
+pub mod TraceTold
 pub mod Records

@@ -4,8 +4,7 @@ use std::alloc::AllocError;
 use thiserror::Error;
 use trace_file::Edges;
 
-/// A traced run: its edges, how the guest stands, how many steps it took, and how many of them read a
-/// flag that was not defined.
+/// A traced run.
 #[derive(Drop)]
 pub struct Traced {
     /// The pair of 0 and the entry, and the pair of address and target of each transfer that did not
@@ -13,11 +12,13 @@ pub struct Traced {
     pub edges: Edges,
     /// How the guest stands: `Budget` where it still runs.
     pub stop: Stop,
+    /// How many steps were taken, the exiting or faulting one too.
     pub steps: u64,
+    /// How many of them read a flag that was not defined.
     pub undefined: u64,
 }
 
-/// Why a run was not traced to its end.
+/// Why a run was not traced to its end. No trace is left.
 #[derive(Debug, PartialEq, Eq, Drop, Error)]
 pub enum TracingError {
     /// The input failed.
@@ -29,7 +30,7 @@ pub enum TracingError {
     /// The report failed.
     #[error("report")]
     Report,
-    /// The edges are more than 2000000.
+    /// The edges are more than [`FILE_EDGE_LIMIT`](trace_file::FILE_EDGE_LIMIT).
     #[error("too many edges")]
     Union,
     /// Want of memory.
@@ -50,7 +51,7 @@ impl From<AllocError> for TracingError {
 
 impl From<SysError> for TracingError {
     ghost use Rattle.std.specs.Prelude.{◌≡◌};
-    ghost use Rattle.tracer.specs.Tour.{error_of};
+    ghost use Rattle.tracer.specs.TracedRun.{error_of};
 
     ghost from_gives = { λ e f. f ≡ error_of e };
 

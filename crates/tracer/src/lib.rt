@@ -3,10 +3,10 @@
 
 mod answers;
 mod recorder;
-mod tour;
+mod tracing;
 
 pub use answers::{Traced, TracingError};
-pub use tour::trace;
+pub use tracing::trace;
 
 #[cfg(test)]
 mod tests;

@@ -1,18 +1,17 @@
 //! The edges of a run as they come.
 ghost use Rattle.std.specs.Prelude.{◌≡◌, ◌≤◌, length, IfOk, [], ◌∷◌};
-ghost use Rattle.tracer.specs.Tour.{edge_limit};
 ghost use Rattle.tracer.specs.Records.{Records};
 
 use crate::answers::TracingError;
 use std::alloc::{AllocError, Global};
 use std::collections::BTreeSet;
 use std::marker::Model;
-use trace_file::Edges;
+use trace_file::{Edges, FILE_EDGE_LIMIT};
 
 /// The most edges that are recorded.
-const EDGE_LIMIT: usize = 2000000;
+const MOST: usize = FILE_EDGE_LIMIT as usize;
 
-/// A set of at most 2000000 edges, seen as the list of them in order.
+/// A set of at most [`FILE_EDGE_LIMIT`] edges, seen as the list of them in order.
 #[derive(Drop)]
 pub struct Recorder {
     edges: BTreeSet<(u32, u32), Global>,
@@ -21,13 +20,13 @@ pub struct Recorder {
 impl Model for Recorder {
     ghost use Rattle.std.specs.Prelude.{List, ◌≤◌, length};
     ghost use Rattle.trace_file.specs.Edges.{Edge};
-    ghost use Rattle.tracer.specs.Tour.{edge_limit};
+    ghost use Rattle.trace_file.specs.declared.limits.TheConstants.{FILE_EDGE_LIMIT};
 
     ghost Value = { List Edge };
 
     ghost view = { λ r. r.edges.keys };
 
-    ghost invariant = { λ r. length r.edges.keys ≤ edge_limit };
+    ghost invariant = { λ r. length r.edges.keys ≤ FILE_EDGE_LIMIT };
 }
 
 impl Recorder {
@@ -40,12 +39,12 @@ impl Recorder {
         Ok(Recorder { edges })
     }
 
-    /// Records an edge. Errors: `Union` where there would be more than 2000000, and `Memory`; the edges are
+    /// Records an edge. Errors: `Union` where there would be more than [`FILE_EDGE_LIMIT`], and `Memory`; the edges are
     /// then as before.
     pub fn add(&mut self, edge: (u32, u32)) -> Result<(), TracingError>
         ensures { Records result edge self.old self.new }
     {
-        if self.edges.len() >= EDGE_LIMIT && !self.edges.contains(&edge) {
+        if self.edges.len() >= MOST && !self.edges.contains(&edge) {
             return Err(TracingError::Union);
         }
         match self.edges.insert(edge) {
@@ -57,7 +56,7 @@ impl Recorder {
     /// The edges in order. The only error is want of memory.
     pub fn edges(&self, alloc: Global) -> Result<Edges, AllocError>
         ensures value { IfOk result (λ edges. edges ≡ self.now) }
-        ensures few { IfOk result (λ edges. length edges ≤ edge_limit) }
+        ensures few { IfOk result (λ edges. length edges ≤ FILE_EDGE_LIMIT) }
     {
         let mut list = Vec::with_capacity(alloc, self.edges.len())?;
         for edge in &self.edges {

@@ -34,11 +34,15 @@ Finds at wrong (Err usage) = (k : ℕ) × (wrong ≡ Some k) × (usage.at ≡ at
 -- a number of steps, the position of the next word, and the words from there
 abbrev pub ReadsSteps : {A : Type 0} → Result (ℕ × ℕ × Bor (List (String A))) Usage → List (List ℕ) → Type 0
 ReadsSteps (Ok read) words =
-    ((next : ℕ → ℕ → List (List ℕ) → Result Asked ℕ) → next_steps words next ≡ next read.0 read.1 (map string_bytes (read.2).now)) × (read.1 ≤ 3)
+    ((next : ℕ → ℕ → List (List ℕ) → Result Asked ℕ)
+    → next_steps words next ≡ next read.0 read.1 (map string_bytes (read.2).now))
+    × (read.1 ≤ 3)
 ReadsSteps (Err usage) words = (next : ℕ → ℕ → List (List ℕ) → Result Asked ℕ) → next_steps words next ≡ Err usage.at
 
 -- the same of the words behind --steps
 abbrev pub ReadsBehind : {A : Type 0} → Result (ℕ × ℕ × Bor (List (String A))) Usage → List (List ℕ) → Type 0
 ReadsBehind (Ok read) words =
-    ((next : ℕ → ℕ → List (List ℕ) → Result Asked ℕ) → steps_behind words next ≡ next read.0 read.1 (map string_bytes (read.2).now)) × (read.1 ≤ 3)
+    ((next : ℕ → ℕ → List (List ℕ) → Result Asked ℕ)
+    → steps_behind words next ≡ next read.0 read.1 (map string_bytes (read.2).now))
+    × (read.1 ≤ 3)
 ReadsBehind (Err usage) words = (next : ℕ → ℕ → List (List ℕ) → Result Asked ℕ) → steps_behind words next ≡ Err usage.at

@@ -1,5 +1,5 @@
 -- The command that words are, or the position of the first word that is wrong, or the number of words where one is missing.
-use Rattle.std.specs.Prelude.{ℕ, ◌+◌, ◌&&◌, ◌||◌, not, nat_le, nat_lt, cond, Bool, List, [], ◌∷◌, length, sum, map, codes, Option, Some, None, Result, Ok, Err}
+use Rattle.std.specs.Prelude.{◌≡◌, ℕ, ◌+◌, ◌&&◌, ◌||◌, not, nat_le, nat_lt, cond, Bool, List, [], ◌∷◌, length, get_or, sum, map, codes, Option, Some, None, Result, Ok, Err}
 use Rattle.std.specs.Str.{bytes_eq}
 use Rattle.word_reader.specs.declared.limits.TheConstants.{NAME_LIMIT, TRACE_LIMIT, ARGUMENT_LIMIT, ARGUMENT_BYTES_LIMIT, GUEST_BYTES, DIGIT_LIMIT, DEFAULT_STEPS, DEMO_LIMIT, FIRST_NAME, FIRST_NAME_BEHIND_STEPS}
 use Rattle.word_reader.specs.Numbers.{number_in}
@@ -87,25 +87,30 @@ abbrev pub first_name : List (List ℕ) → ℕ
 first_name (word ∷ second ∷ words) = cond (is_steps second) FIRST_NAME_BEHIND_STEPS FIRST_NAME
 first_name _ = FIRST_NAME
 
--- the words behind each command's own word
+-- the words behind `build`: the new executable, the original, traces
 abbrev pub build_words : List (List ℕ) → Result Asked ℕ
 build_words words = next_name 1 words (λ n words. next_name 2 words (λ e words. traces_at 3 words (Builds n e words)))
 
+-- `trace`: perhaps a number of steps, the trace, the original, the guest's words
 abbrev pub trace_words : List (List ℕ) → Result Asked ℕ
 trace_words words =
     next_steps words (λ steps at words. next_name at words (λ t words.
     next_name (at + 1) words (λ e words. arguments_at (at + 2) words (Traces steps t e words))))
 
+-- `run`: perhaps a number of steps, the executable, the guest's words
 abbrev pub run_words : List (List ℕ) → Result Asked ℕ
 run_words words =
     next_steps words (λ steps at words. next_name at words (λ e words. arguments_at (at + 1) words (Runs steps e words)))
 
+-- `merge`: the union, the original, traces
 abbrev pub merge_words : List (List ℕ) → Result Asked ℕ
 merge_words words = next_name 1 words (λ t words. next_name 2 words (λ e words. traces_at 3 words (Merges t e words)))
 
+-- `show`: the original, traces
 abbrev pub show_words : List (List ℕ) → Result Asked ℕ
 show_words words = next_name 1 words (λ e words. traces_at 2 words (Shows e words))
 
+-- `session`: the original alone
 abbrev pub session_words : List (List ℕ) → Result Asked ℕ
 session_words words = next_name 1 words (λ e words. no_more 2 words (Sessions e))
 
@@ -113,6 +118,7 @@ session_words words = next_name 1 words (λ e words. no_more 2 words (Sessions e
 abbrev pub demo_count : ℕ → List (List ℕ) → Result Asked ℕ
 demo_count count words = cond (nat_le 1 count && nat_le count DEMO_LIMIT) (no_more 2 words (Demos count)) (Err 1)
 
+-- `demo`: a number alone
 abbrev pub demo_words : List (List ℕ) → Result Asked ℕ
 demo_words [] = Err 1
 demo_words (word ∷ words) = or_wrong 1 (number_in DIGIT_LIMIT word) (λ count. demo_count count words)
@@ -132,3 +138,15 @@ command_of word words =
 unfoldable pub command : List (List ℕ) → Result Asked ℕ
 command [] = Err 0
 command (word ∷ words) = command_of word words
+
+-- ---- where names stand
+
+-- `run` names the executable where first_name says; `trace` names the trace there, and the original behind it
+abbrev pub Named : List (List ℕ) → Asked → Type 0
+Named words (Runs steps e args) = get_or words (first_name words) [] ≡ e
+Named words (Traces steps t e args) = (get_or words (first_name words) [] ≡ t) × (get_or words (first_name words + 1) [] ≡ e)
+Named words _ = Unit {0}
+
+-- the words of each command that is read
+abbrev pub NamesStand : Type 0
+NamesStand = (words : List (List ℕ)) (asked : Asked) → command words ≡ Ok asked → Named words asked

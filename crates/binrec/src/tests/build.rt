@@ -62,11 +62,7 @@ fn refuses_damaged_files(rt: HostRuntime) -> Result<(), Fail> {
                 *place = *byte;
             }
         }
-        assert!(rt;
-            left_by(&rt, &words, &file)?.gives_up(2, line),
-            "{}",
-            line
-        );
+        assert!(rt; left_by(&rt, &words, &file)?.gives_up(2, line), "{}", line);
     }
     Ok(())
 }
@@ -100,9 +96,28 @@ fn names_what_failed(rt: HostRuntime) -> Result<(), Fail> {
         (words, &[2]),
         (["build", "N", "absent"], &[]),
     ] {
-        assert!(rt; left_failing(&rt, &words, &HELLO, Failing { shelf: failing, ..NONE })?.gives_up(3, "outside shelf\n"));
+        assert!(rt;
+            left_failing(
+                &rt,
+                &words,
+                &HELLO,
+                Failing {
+                    shelf: failing,
+                    ..NONE
+                }
+            )?
+            .gives_up(3, "outside shelf\n")
+        );
     }
-    let left = left_failing(&rt, &words, &HELLO, Failing { report: &[1], ..NONE })?;
+    let left = left_failing(
+        &rt,
+        &words,
+        &HELLO,
+        Failing {
+            report: &[1],
+            ..NONE
+        },
+    )?;
     assert!(rt; left.says(3, ""));
     assert!(rt; left.stored.is_some());
     Ok(())

@@ -80,9 +80,25 @@ fn traces_a_jump_that_is_not_taken(rt: HostRuntime) -> Result<(), Fail> {
 
 #[test]
 fn names_what_failed_in_a_traced_run(rt: HostRuntime) -> Result<(), Fail> {
-    let left = left_failing(&rt, &["trace", "N", "E"], &HELLO, Failing { output: &[1], ..NONE })?;
+    let left = left_failing(
+        &rt,
+        &["trace", "N", "E"],
+        &HELLO,
+        Failing {
+            output: &[1],
+            ..NONE
+        },
+    )?;
     assert!(rt; left.gives_up(3, "outside output\n"));
-    let left = left_failing(&rt, &["trace", "N", "E"], &HELLO, Failing { shelf: &[2], ..NONE })?;
+    let left = left_failing(
+        &rt,
+        &["trace", "N", "E"],
+        &HELLO,
+        Failing {
+            shelf: &[2],
+            ..NONE
+        },
+    )?;
     assert_eq!(rt; left.status, 3);
     assert_eq!(rt; left.report.as_str(), "outside shelf\n");
     assert_eq!(rt; left.printed.as_slice(), b"hi\n".as_slice());

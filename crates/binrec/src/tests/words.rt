@@ -22,11 +22,7 @@ fn reads_the_words(rt: HostRuntime) -> Result<(), Fail> {
         (&["run", "--steps", "1"], "usage 3\n"),
     ];
     for (words, line) in stated {
-        assert!(rt;
-            left_by(&rt, words, &HELLO)?.gives_up(1, line),
-            "{}",
-            line
-        );
+        assert!(rt; left_by(&rt, words, &HELLO)?.gives_up(1, line), "{}", line);
     }
     Ok(())
 }

@@ -1,5 +1,5 @@
 use Rattle.std.proofs.Common.{◌≡◌, ◌++◌, drop}
-use Rattle.flow_graph.specs.Graph.{counting}
+use Rattle.block_cut.specs.CountedEdges.{counting}
 use Rattle.flow_graph.proofs.counting.counting.Given as goal
 
 abbrev pub invariant-loop-edge : goal.invariant-loop-edge

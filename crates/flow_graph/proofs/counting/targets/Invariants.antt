@@ -1,5 +1,5 @@
 use Rattle.std.proofs.Common.{◌≡◌, ◌++◌, map, drop}
-use Rattle.trace_file.specs.Edges.{Edge}
+use Rattle.run_model.specs.Edges.{Edge}
 use Rattle.flow_graph.proofs.counting.targets.Given as goal
 
 abbrev pub invariant-loop-edge : goal.invariant-loop-edge

@@ -1,4 +1,4 @@
-use Rattle.guest_run.proofs.Carried.{found_as, ok_as, no_code, no_inst, missing, unreadable}
+use Rattle.guest_run.proofs.InstructionSteps.{found_as, ok_as, no_code, no_inst, missing, unreadable}
 use Rattle.guest_run.proofs.advance.advance.Goals as goal
 
 pub returns-in-Missing : goal.returns-in-Missing

@@ -1,4 +1,4 @@
-use Rattle.guest_run.proofs.Carried.{trap_carries, carries_on, faults_at, ok_as, edged}
+use Rattle.guest_run.proofs.InstructionSteps.{trap_carries, carries_on, faults_at, ok_as, edged}
 use Rattle.guest_run.proofs.advance.carry_out.Goals as goal
 
 pub returns-in-Trap : goal.returns-in-Trap

@@ -1,6 +1,6 @@
 use Rattle.guest_sys.specs.declared.answers.Called.TheVariants.{Goes, Exit}
-use Rattle.guest_run.proofs.Trapped.{trap_done, trap_fault, trap_fails}
-use Rattle.guest_run.proofs.Carried.{trap_as}
+use Rattle.guest_run.proofs.CallSteps.{trap_done, trap_fault, trap_fails}
+use Rattle.guest_run.proofs.InstructionSteps.{trap_as}
 use Rattle.guest_run.proofs.advance.trap.Goals as goal
 
 pub returns-in-Err : goal.returns-in-Err

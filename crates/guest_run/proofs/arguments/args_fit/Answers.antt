@@ -1,5 +1,5 @@
 use Rattle.std.proofs.Common.{arith, string_bytes}
-use Rattle.guest_run.proofs.Texts.{fits}
+use Rattle.guest_run.proofs.ArgumentTexts.{fits}
 use Rattle.guest_run.proofs.arguments.args_fit.Goals as goal
 
 pub returns : goal.returns

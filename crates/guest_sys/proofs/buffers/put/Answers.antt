@@ -1,5 +1,5 @@
 use Rattle.std.proofs.Common.{sym}
-use Rattle.guest_sys.proofs.Puts.{put_no, put_yes, not_empty}
+use Rattle.guest_sys.proofs.PutBytes.{put_no, put_yes, not_empty}
 use Rattle.guest_sys.proofs.buffers.put.Goals as goal
 
 pub returns-then-not-can_write : goal.returns-then-not-can_write

@@ -1,4 +1,4 @@
-use Rattle.guest_sys.proofs.Puts.{wanted_whole, wanted_more}
+use Rattle.guest_sys.proofs.PutBytes.{wanted_whole, wanted_more}
 use Rattle.guest_sys.proofs.buffers.wanted.Goals as goal
 
 pub returns-then-front-len : goal.returns-then-front-len

@@ -1,4 +1,4 @@
-use Rattle.guest_sys.proofs.Done.{breaks, breaks_not, answers_as}
+use Rattle.guest_sys.proofs.DoneCalls.{breaks, breaks_not, answers_as}
 use Rattle.guest_sys.proofs.calls.move_break.Goals as goal
 
 pub returns-in-Err : goal.returns-in-Err

@@ -1,7 +1,7 @@
 use Rattle.std.proofs.Common.{ap, sym, ◌∙◌, ◌≡◌, Some, None, get_or, arith, length}
 use Rattle.ia_inst.specs.System.{filled}
-use Rattle.guest_sys.proofs.Puts.{put_false, put_true}
-use Rattle.guest_sys.proofs.Done.{answers_as, counts_as, bad_read, reads, read_faults, faults_as}
+use Rattle.guest_sys.proofs.PutBytes.{put_false, put_true}
+use Rattle.guest_sys.proofs.DoneCalls.{answers_as, counts_as, bad_read, reads, read_faults, faults_as}
 use Rattle.guest_sys.proofs.calls.read.Goals as goal
 
 pub returns-then-cpu-ne0 : goal.returns-then-cpu-ne0

@@ -1,5 +1,5 @@
 use Rattle.std.proofs.Common.{arith}
-use Rattle.guest_sys.proofs.Done.{exits, answers_as, bad_write, bad_number}
+use Rattle.guest_sys.proofs.DoneCalls.{exits, answers_as, bad_write, bad_number}
 use Rattle.guest_sys.proofs.calls.system.Goals as goal
 
 pub returns-in-1 : goal.returns-in-1

@@ -1,5 +1,5 @@
 use Rattle.std.proofs.Common.{refl}
-use Rattle.guest_sys.proofs.Written.{err_done, err_fails, err_no_memory}
+use Rattle.guest_sys.proofs.WriteCalls.{err_done, err_fails, err_no_memory}
 use Rattle.guest_sys.proofs.calls.write_err.Goals as goal
 
 pub returns-in-Ok : goal.returns-in-Ok

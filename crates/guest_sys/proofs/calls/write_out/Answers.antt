@@ -1,5 +1,5 @@
 use Rattle.std.proofs.Common.{refl}
-use Rattle.guest_sys.proofs.Written.{out_done, out_fails, out_no_memory}
+use Rattle.guest_sys.proofs.WriteCalls.{out_done, out_fails, out_no_memory}
 use Rattle.guest_sys.proofs.calls.write_out.Goals as goal
 
 pub returns-in-Ok : goal.returns-in-Ok

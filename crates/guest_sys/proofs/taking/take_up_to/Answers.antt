@@ -1,5 +1,5 @@
 use Rattle.std.proofs.Common.{arith, inl}
-use Rattle.guest_sys.proofs.Taken.{takes_all, takes_err}
+use Rattle.guest_sys.proofs.TakenBytes.{takes_all, takes_err}
 use Rattle.guest_sys.proofs.taking.take_up_to.Goals as goal
 
 pub returns-in-Err : goal.returns-in-Err

@@ -1,5 +1,5 @@
 use Rattle.std.proofs.Common.{◌≡◌, ◌≤◌, ◌-◌, vec_len}
-use Rattle.guest_sys.proofs.Taken.{HasTaken}
+use Rattle.guest_sys.proofs.TakenBytes.{HasTaken}
 use Rattle.guest_sys.proofs.taking.take_up_to.Given as goal
 
 abbrev pub invariant-loop-bytes : goal.invariant-loop-bytes

@@ -6,7 +6,7 @@ use Rattle.show_text.proofs.Listed.{none_listed, all_listed, one_left, one_liste
 use Rattle.show_text.proofs.lines.lines_text.Goals as goal
 
 pub loop-init : goal.loop-init
-loop-init c = same_listed c.args.exe.now (block_of c.args.exe.now c.args.start).insts [] _ (c.args.count - 0) _ c.args.start _ c.new-lines.ensures.bytes refl refl (none_listed c.args.exe.now c.args.start c.args.count c.requires.count)
+loop-init c = same_listed c.args.exe.now (block_of c.args.exe.now c.args.start).insts [] _ (c.args.count - 0) _ c.args.start _ c.new-lines.ensures.bytes refl refl (none_listed c.args.exe.now c.args.start c.args.count c.one_block.ensures c.requires.count)
 
 pub unreachable-requires : goal.unreachable-requires
 unreachable-requires c = one_left c.args.exe.now (block_of c.args.exe.now c.args.start).insts (string_bytes c.loop.lines) (c.args.count - c.loop.counter) c.loop.at (omega arith) c.loop.invariant c.in_default.ensures.inst

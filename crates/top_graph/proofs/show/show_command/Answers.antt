@@ -1,8 +1,7 @@
 use Rattle.std.proofs.Common.{ℕ, List, map, string_bytes}
 use Rattle.elf_read.specs.declared.exe.Exe.{Exe}
-use Rattle.elf_read.proofs.Accepted.{original_is_guest}
 use Rattle.trace_file.specs.Edges.{Edge, union_of}
-use Rattle.flow_graph.specs.Made.{graph_of}
+use Rattle.flow_graph.specs.GraphOf.{graph_of}
 use Rattle.top_plan.specs.World.{world}
 use Rattle.top_plan.specs.Plan.{Plan}
 use Rattle.top_plan.specs.Parts.{checked}
@@ -21,10 +20,10 @@ abbrev behind : List (List ℕ) → Subject → Plan
 behind names subject = traces_part subject.digest names 2 0 (graph_behind subject.exe)
 
 pub graph_of-requires-clause-guest : goal.graph_of-requires-clause-guest
-graph_of-requires-clause-guest g c = original_is_guest c.in_ok-subject.subject.exe c.in_ok-subject.ensures.original
+graph_of-requires-clause-guest g c = c.in_ok-subject.ensures.guest
 
 pub print_graph-requires-clause-guest : goal.print_graph-requires-clause-guest
-print_graph-requires-clause-guest g c = original_is_guest c.in_ok-subject.subject.exe c.in_ok-subject.ensures.original
+print_graph-requires-clause-guest g c = c.in_ok-subject.ensures.guest
 
 pub returns-in_err-subject : goal.returns-in_err-subject
 returns-in_err-subject g c i r =

@@ -1,7 +1,6 @@
 use Rattle.std.proofs.Common.{ℕ, List, [], ◌∷◌, map, string_bytes}
-use Rattle.elf_read.proofs.Accepted.{original_is_guest}
 use Rattle.guest_run.specs.Guest.{beginning}
-use Rattle.tracer.specs.Tour.{entry_edge}
+use Rattle.tracer.specs.TracedRun.{entry_edge}
 use Rattle.top_plan.specs.World.{world}
 use Rattle.top_plan.specs.Plan.{Plan}
 use Rattle.top_run.specs.TracePlan.{tour_plan, traced_part}
@@ -20,7 +19,7 @@ returns-in_err-subject g c =
     ends_on _ s _ _ c.from_residual.result (c.in_err-subject.ensures.goes s (behind c.args.steps c.args.target.now (map string_bytes c.args.args.now))) c.from_residual.ensures.1
 
 pub trace_guest-requires-clause-guest : goal.trace_guest-requires-clause-guest
-trace_guest-requires-clause-guest g c = original_is_guest _ c.in_ok-subject.ensures.original
+trace_guest-requires-clause-guest g c = c.in_ok-subject.ensures.guest
 
 pub returns-in_err-traced : goal.returns-in_err-traced
 returns-in_err-traced g c =

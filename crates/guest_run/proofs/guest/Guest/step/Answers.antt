@@ -1,5 +1,5 @@
 use Rattle.std.proofs.Common.{refl}
-use Rattle.guest_run.proofs.Stepped.{step_done, step_failed, step_not}
+use Rattle.guest_run.proofs.GuestSteps.{step_done, step_failed, step_not}
 use Rattle.guest_run.proofs.guest.Guest.step.Goals as goal
 
 pub returns-then-not-is_running : goal.returns-then-not-is_running

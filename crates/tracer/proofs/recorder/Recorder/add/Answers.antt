@@ -1,16 +1,16 @@
 use Rattle.std.proofs.Common.{refl, sym, ◌∙◌, inl, inr, arith}
-use Rattle.tracer.proofs.Recorded.{HasRoom, record_full, record_done, record_wants}
-use Rattle.tracer.proofs.recorder.Recorder.add.Goals.{in-Ok, in-Err, else-len-ge-EDGE_LIMIT-via-then-len-ge-EDGE_LIMIT+else-not-contains, else-len-ge-EDGE_LIMIT-via-else-len-ge-EDGE_LIMIT}
+use Rattle.tracer.proofs.EdgeSets.{HasRoom, record_full, record_done, record_wants}
+use Rattle.tracer.proofs.recorder.Recorder.add.Goals.{in-Ok, in-Err, else-len-ge-MOST-via-then-len-ge-MOST+else-not-contains, else-len-ge-MOST-via-else-len-ge-MOST}
 use Rattle.tracer.proofs.recorder.Recorder.add.Goals as goal
 
 pub returns-then-not-contains : goal.returns-then-not-contains
-returns-then-not-contains c = rw (← c.self.view_is) (record_full c.args.edge c.self.inside.edges.keys (omega (arith, c.if-len-ge-EDGE_LIMIT.true, c.len.ensures.len)) (sym c.contains.ensures ∙ c.if-not-contains.true), refl)
+returns-then-not-contains c = rw (← c.self.view_is) (record_full c.args.edge c.self.inside.edges.keys (omega (arith, c.if-len-ge-MOST.true, c.len.ensures.len)) (sym c.contains.ensures ∙ c.if-not-contains.true), refl)
 
 pub returns : goal.returns
 returns c =
-    let room : HasRoom c.args.edge c.self.inside.edges.keys = elim c.else-len-ge-EDGE_LIMIT.branch [
-      | else-len-ge-EDGE_LIMIT-via-then-len-ge-EDGE_LIMIT+else-not-contains w ↦ inr (sym w.contains.ensures ∙ w.if-not-contains.false)
-      | else-len-ge-EDGE_LIMIT-via-else-len-ge-EDGE_LIMIT w ↦ inl (omega (arith, w.if-len-ge-EDGE_LIMIT.false, c.len.ensures.len))
+    let room : HasRoom c.args.edge c.self.inside.edges.keys = elim c.else-len-ge-MOST.branch [
+      | else-len-ge-MOST-via-then-len-ge-MOST+else-not-contains w ↦ inr (sym w.contains.ensures ∙ w.if-not-contains.false)
+      | else-len-ge-MOST-via-else-len-ge-MOST w ↦ inl (omega (arith, w.if-len-ge-MOST.false, c.len.ensures.len))
     ] in
     rw (← c.self.view_is) (elim c.match-insert.branch [
       | in-Ok w ↦ rw w.result-is (record_done c.args.edge c.self.inside.edges.keys c.insert.new.self.keys w.in-Ok.field-0 c.self.invariant room w.in-Ok.ensures.added w.in-Ok.ensures.len w.in-Ok.ensures.keys)

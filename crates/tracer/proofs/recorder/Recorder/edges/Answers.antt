@@ -1,6 +1,6 @@
 use Rattle.std.proofs.Common.{sym, ◌∙◌, ap, ◌++◌}
 use Rattle.std.proofs.lemmas.List.{append-nil}
-use Rattle.tracer.proofs.Recorded.{is_edges}
+use Rattle.tracer.proofs.EdgeSets.{is_edges}
 use Rattle.tracer.proofs.recorder.Recorder.edges.Goals as goal
 
 pub of_list-requires : goal.of_list-requires

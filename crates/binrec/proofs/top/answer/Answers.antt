@@ -1,0 +1,51 @@
+use Rattle.std.proofs.Common.{◌+◌, map, string_bytes, refl, arith}
+use Rattle.top_plan.specs.World.{world}
+use Rattle.top_plan.specs.Texts.{end_of}
+use Rattle.top_plan.specs.Happened.{Happened}
+use Rattle.top_build.specs.BuildPlan.{build_plan}
+use Rattle.top_run.specs.RunPlan.{run_plan}
+use Rattle.top_run.specs.TracePlan.{trace_plan}
+use Rattle.top_graph.specs.MergePlan.{merge_plan}
+use Rattle.top_graph.specs.ShowPlan.{show_plan}
+use Rattle.binrec.proofs.TopClauses.{answers_as}
+use Rattle.binrec.proofs.top.answer.Goals as goal
+
+pub returns-in-Build : goal.returns-in-Build
+returns-in-Build g c =
+    let s = world (g.F.Shelf.seen c.args.shelf.now) (g.I.Source.seen c.args.input.now) (g.O.Sink.seen c.args.out.now) (g.R.Sink.seen c.args.report.now) in
+    let m = world (g.F.Shelf.seen c.build_command.new.shelf) (g.I.Source.seen c.args.input.now) (g.O.Sink.seen c.args.out.now) (g.R.Sink.seen c.args.report.now) in
+    let t = world (g.F.Shelf.seen c.build_command.new.shelf) (g.I.Source.seen c.args.input.now) (g.O.Sink.seen c.args.out.now) (g.R.Sink.seen c.tell_end.new.report) in
+    let h : Happened (build_plan c.in-Build.n.now c.in-Build.e.now) s c.tell_end.result t = (end_of c.build_command.result, m, c.build_command.ensures s, (_, c.tell_end.ensures, refl)) in
+    answers_as _ _ c.args.first s _ t c.in-Build.is h
+
+pub returns-in-Merge : goal.returns-in-Merge
+returns-in-Merge g c =
+    let s = world (g.F.Shelf.seen c.args.shelf.now) (g.I.Source.seen c.args.input.now) (g.O.Sink.seen c.args.out.now) (g.R.Sink.seen c.args.report.now) in
+    let m = world (g.F.Shelf.seen c.merge_command.new.shelf) (g.I.Source.seen c.args.input.now) (g.O.Sink.seen c.args.out.now) (g.R.Sink.seen c.args.report.now) in
+    let t = world (g.F.Shelf.seen c.merge_command.new.shelf) (g.I.Source.seen c.args.input.now) (g.O.Sink.seen c.args.out.now) (g.R.Sink.seen c.tell_end-in-Merge.new.report) in
+    let h : Happened (merge_plan c.in-Merge.t.now c.in-Merge.e.now (map string_bytes c.in-Merge.traces.now)) s c.tell_end-in-Merge.result t = (end_of c.merge_command.result, m, c.merge_command.ensures s, (_, c.tell_end-in-Merge.ensures, refl)) in
+    answers_as _ _ c.args.first s _ t c.in-Merge.is h
+
+pub returns-in-Show : goal.returns-in-Show
+returns-in-Show g c =
+    let s = world (g.F.Shelf.seen c.args.shelf.now) (g.I.Source.seen c.args.input.now) (g.O.Sink.seen c.args.out.now) (g.R.Sink.seen c.args.report.now) in
+    let m = world (g.F.Shelf.seen c.show_command.new.shelf) (g.I.Source.seen c.args.input.now) (g.O.Sink.seen c.show_command.new.out) (g.R.Sink.seen c.args.report.now) in
+    let t = world (g.F.Shelf.seen c.show_command.new.shelf) (g.I.Source.seen c.args.input.now) (g.O.Sink.seen c.show_command.new.out) (g.R.Sink.seen c.tell_end-in-Show.new.report) in
+    let h : Happened (show_plan c.in-Show.e.now (map string_bytes c.in-Show.traces.now)) s c.tell_end-in-Show.result t = (end_of c.show_command.result, m, c.show_command.ensures (g.I.Source.seen c.args.input.now) (g.R.Sink.seen c.args.report.now), (_, c.tell_end-in-Show.ensures, refl)) in
+    answers_as _ _ c.args.first s _ t c.in-Show.is h
+
+pub returns-in-Run : goal.returns-in-Run
+returns-in-Run g c =
+    let s = world (g.F.Shelf.seen c.args.shelf.now) (g.I.Source.seen c.args.input.now) (g.O.Sink.seen c.args.out.now) (g.R.Sink.seen c.args.report.now) in
+    let m = world (g.F.Shelf.seen c.run_command.new.shelf) (g.I.Source.seen c.run_command.new.input) (g.O.Sink.seen c.run_command.new.out) (g.R.Sink.seen c.run_command.new.report) in
+    let t = world (g.F.Shelf.seen c.run_command.new.shelf) (g.I.Source.seen c.run_command.new.input) (g.O.Sink.seen c.run_command.new.out) (g.R.Sink.seen c.tell_end-in-Run.new.report) in
+    let h : Happened (run_plan c.in-Run.steps c.in-Run.e.now (map string_bytes c.in-Run.args.now) c.args.first) s c.tell_end-in-Run.result t = (end_of c.run_command.result, m, c.run_command.ensures, (_, c.tell_end-in-Run.ensures, refl)) in
+    answers_as _ _ c.args.first s _ t c.in-Run.is h
+
+pub returns-in-Trace : goal.returns-in-Trace
+returns-in-Trace g c =
+    let s = world (g.F.Shelf.seen c.args.shelf.now) (g.I.Source.seen c.args.input.now) (g.O.Sink.seen c.args.out.now) (g.R.Sink.seen c.args.report.now) in
+    let m = world (g.F.Shelf.seen c.trace_command.new.shelf) (g.I.Source.seen c.trace_command.new.input) (g.O.Sink.seen c.trace_command.new.out) (g.R.Sink.seen c.trace_command.new.report) in
+    let t = world (g.F.Shelf.seen c.trace_command.new.shelf) (g.I.Source.seen c.trace_command.new.input) (g.O.Sink.seen c.trace_command.new.out) (g.R.Sink.seen c.tell_end-in-Trace.new.report) in
+    let h : Happened (trace_plan c.in-Trace.steps c.in-Trace.t.now c.in-Trace.e.now (map string_bytes c.in-Trace.args.now) (c.args.first + 1)) s c.tell_end-in-Trace.result t = (end_of c.trace_command.result, m, c.trace_command.ensures, (_, c.tell_end-in-Trace.ensures, refl)) in
+    answers_as _ _ c.args.first s _ t c.in-Trace.is h

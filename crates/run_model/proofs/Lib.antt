@@ -1,0 +1,5 @@
+pub mod KeptRegions
+pub mod KeptStates
+pub mod SegmentEnds
+pub mod SoundOpening
+pub mod SplitRuns
