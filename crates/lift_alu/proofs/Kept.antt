@@ -113,20 +113,20 @@ made (Sel x y z) b vals g =
     from b bz.to vals _ (λ v s. r.keeps v (q.keeps v (p.keeps v s))) (made_line bz.to vals (Select bx.val by.val bz.val) r.good (both _ _ (r.keeps bx.val (q.keeps bx.val p.val)) (both _ _ (r.keeps by.val q.val) r.val)) refl)
 
 -- one of a list, or the value that was set
-set_one : (P : Val → Type 0) (g : List Val) (k : ℕ) (v : Val) → P v → ((r : ℕ) → P (get_or g r (Num 0))) → (r : ℕ) → P (get_or (set g k v) r (Num 0))
+pub set_one : (P : Val → Type 0) (g : List Val) (k : ℕ) (v : Val) → P v → ((r : ℕ) → P (get_or g r (Num 0))) → (r : ℕ) → P (get_or (set g k v) r (Num 0))
 set_one P [] k v p h r = h r
 set_one P (x ∷ g) zero v p h zero = p
 set_one P (x ∷ g) zero v p h (suc r) = h (suc r)
 set_one P (x ∷ g) (suc k) v p h zero = h zero
 set_one P (x ∷ g) (suc k) v p h (suc r) = set_one P g k v p (λ j. h (suc j)) r
 
-take_one : (P : Val → Type 0) (j : ℕ) (g : List Val) → P (Num 0) → ((r : ℕ) → P (get_or g r (Num 0))) → (r : ℕ) → P (get_or (take j g) r (Num 0))
+pub take_one : (P : Val → Type 0) (j : ℕ) (g : List Val) → P (Num 0) → ((r : ℕ) → P (get_or g r (Num 0))) → (r : ℕ) → P (get_or (take j g) r (Num 0))
 take_one P zero g p h r = p
 take_one P (suc j) [] p h r = p
 take_one P (suc j) (x ∷ g) p h zero = h zero
 take_one P (suc j) (x ∷ g) p h (suc r) = take_one P j g p (λ k. h (suc k)) r
 
-spot_one : (P : Val → Type 0) (p q : Spot) (v : Val) (r : Regs Val) → P v → ((q : Spot) → P (spot q r (Num 0))) → P (spot q (with_spot p v r) (Num 0))
+pub spot_one : (P : Val → Type 0) (p q : Spot) (v : Val) (r : Regs Val) → P v → ((q : Spot) → P (spot q r (Num 0))) → P (spot q (with_spot p v r) (Num 0))
 spot_one P (Gpr k) (Gpr j) v r a h = set_one P r.gpr k v a (λ i. h (Gpr i)) j
 spot_one P (Gpr k) InCf v r a h = h InCf
 spot_one P (Gpr k) InPf v r a h = h InPf
@@ -147,7 +147,7 @@ spot_one P InSf q v r a h = h q
 spot_one P InOf q v r a h = h q
 spot_one P InDf q v r a h = h q
 
-put_one : (P : Val → Type 0) (k : ℕ) (v : Val) (vals : ℕ → Val) → P v → ((j : ℕ) → P (vals j)) → (j : ℕ) → P (put k v vals j)
+pub put_one : (P : Val → Type 0) (k : ℕ) (v : Val) (vals : ℕ → Val) → P v → ((j : ℕ) → P (vals j)) → (j : ℕ) → P (put k v vals j)
 put_one P k v vals a h j = each (nat_eq j k)
   where
     each : (b : Bool) → P (if b then v else vals j)
@@ -155,7 +155,6 @@ put_one P k v vals a h j = each (nat_eq j k)
     each false = h j
 
 good_step : (x : Step) (r : Rowed) → Good r.draft r.vals → Good (row_step x r).draft (row_step x r).vals
-
 unfolding row_step
 good_step (Name k e) r g =
     let m = made e r.draft r.vals g in let b = emit r.vals e r.draft in

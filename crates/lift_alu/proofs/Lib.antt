@@ -14,3 +14,6 @@ pub mod Kept
 pub mod Costs
 pub mod Examples
 pub mod Outs
+pub mod Making
+pub mod Closed
+pub mod Words

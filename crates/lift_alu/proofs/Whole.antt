@@ -13,7 +13,8 @@ use Rattle.ssa_form.specs.declared.form.Val.{Val}
 use Rattle.ssa_form.specs.declared.form.Val.TheVariants.{Param, Line as Of, Num}
 use Rattle.ssa_form.specs.declared.form.Line.{Line}
 use Rattle.ssa_form.specs.Value.{Env, value, fold, numbered, outs_of, exit_of, select_value}
-use Rattle.ssa_form.specs.Agree.{AgreesOn, AreBits, AreRegs, every, number}
+use Rattle.ssa_form.specs.Agree.{AgreesOn, AreBits, every, number}
+use Rattle.ia_inst.specs.Fits.{AreRegs}
 use Rattle.ssa_form.specs.declared.form.Block.{Block}
 use Rattle.ssa_form.specs.Checked.{val_checked, vals_checked, lines_checked, checked}
 use Rattle.lift_alu.specs.Steps.{Spot, Gpr, InCf, InPf, InZf, InSf, InOf, InDf, Regs, Expr, Cur, Got, Lit, Op, Fn, Sel, Step, Name, Fetch, Put, Write, with_spot, Run, Draft, emit, Rowed, row_step, row_steps, unnamed}

@@ -3,3 +3,4 @@ pub mod Operands
 pub mod Table
 pub mod Lifted
 pub mod Means
+pub mod Making

@@ -1,5 +1,5 @@
 -- The lines of an instruction do what its step does.
-use Rattle.std.specs.Prelude.{◌≡◌, ℕ, List, ◌++◌, length}
+use Rattle.std.specs.Prelude.{IsTrue, true, ◌+◌, ◌≤◌, ◌≡◌, ℕ, List, ◌++◌, length}
 use Rattle.br_word.specs.Memory.{Region}
 use Rattle.br_word.specs.State.{Processor}
 use Rattle.ia_inst.specs.declared.inst.Inst.{Inst}
@@ -7,12 +7,15 @@ use Rattle.ia_inst.specs.declared.inst.Kind.{Kind}
 use Rattle.ia_inst.specs.declared.inst.Kind.TheVariants.{Plain, Island, Transfer}
 use Rattle.ia_inst.specs.Act.{Next, NextEip, perform}
 use Rattle.ia_inst.specs.Meaning.{meaning}
-use Rattle.ia_inst.specs.Kinds.{flags_read}
+use Rattle.ia_inst.specs.Kinds.{kind_of, flags_read}
 use Rattle.ia_inst.specs.Step.{AllMarked, next_eip}
 use Rattle.ssa_form.specs.declared.form.Line.{Line}
 use Rattle.ssa_form.specs.Value.{Env, fold, AllAllowed, numbered, outs_of, exit_of}
-use Rattle.ssa_form.specs.Agree.{AgreesOn, AreBits, AreRegs, every}
-use Rattle.ssa_form.specs.Same.{HoldsBytes}
+use Rattle.ssa_form.specs.Agree.{AgreesOn, AreBits, every}
+use Rattle.ia_inst.specs.Fits.{AreRegs}
+use Rattle.ssa_form.specs.Same.{HoldsBytes, SpellsWords}
+use Rattle.ssa_form.specs.Checked.{checked}
+use Rattle.ia_inst.specs.Canonical.{valid_of}
 use Rattle.ssa_form.specs.declared.form.Block.{Block}
 use Rattle.lift_alu.specs.Lifted.{lifted}
 
@@ -42,3 +45,22 @@ LinesMean i at n b =
     AllMarked u.marks (flags_read i) →
     perform (meaning i n u.regs at u.df) 0 u e.mem ≡ Next v ms to →
     Reaches b (lifted i at n b) e at v ms to
+
+-- every valid instruction that is not native, behind a checked block
+abbrev pub EachMeans : Type 0
+EachMeans = (i : Inst) (at n : ℕ) (b : Block)
+    → IsTrue (valid_of i) → IsLifted (kind_of i) → checked b ≡ true → LinesMean i at n b
+
+-- ---- what else is known of lifted blocks
+
+abbrev pub EachStaysChecked : Type 0
+EachStaysChecked = (i : Inst) (at n : ℕ) (b : Block) → checked b ≡ true → checked (lifted i at n b) ≡ true
+
+abbrev pub EachHasFew : Type 0
+EachHasFew = (i : Inst) (at n : ℕ) (b : Block)
+    → IsTrue (valid_of i) → length (lifted i at n b).lines ≤ length b.lines + 32
+
+-- the numbers that lines and outs spell out have 32 bits
+abbrev pub EachSpellsWords : Type 0
+EachSpellsWords = (i : Inst) (at n : ℕ) (b : Block)
+    → IsTrue (valid_of i) → SpellsWords b → SpellsWords (lifted i at n b)

@@ -1,5 +1,5 @@
 -- When the numbers of virtual registers are those of a processor.
-use Rattle.std.specs.Prelude.{◌≡◌, ℕ, ◌^◌, ◌<◌, Bool, true, List, length, get_or}
+use Rattle.std.specs.Prelude.{◌≡◌, ℕ, ◌<◌, Bool, true, get_or}
 use Rattle.br_word.specs.Words.{bit}
 use Rattle.br_word.specs.State.{Processor, Flag, CF, PF, ZF, SF, OF, flag_of}
 
@@ -24,8 +24,3 @@ pub record AreBits (p : ℕ → ℕ) : Type 0 where
 
 abbrev pub every : ℕ → Bool
 every v = true
-
--- eight registers of 32 bits (SDM volume 1, 3.4.1)
-pub record AreRegs (regs : List ℕ) : Type 0 where
-  pub count : length regs ≡ 8
-  pub small : (r : ℕ) → get_or regs r 0 < 2 ^ 32

@@ -1,5 +1,5 @@
 -- When one block may stand in another's place: words, memory of bytes, and what a block gives.
-use Rattle.std.specs.Prelude.{◌≡◌, ℕ, ◌<◌, ◌^◌, List, [], ◌∷◌}
+use Rattle.std.specs.Prelude.{◌≡◌, ℕ, ◌<◌, ◌^◌, List, [], ◌∷◌, get_or}
 use Rattle.br_word.specs.Memory.{Region}
 use Rattle.ssa_form.specs.declared.form.Val.{Val}
 use Rattle.ssa_form.specs.declared.form.Val.TheVariants.{Param, Line as Of, Num}
@@ -33,6 +33,11 @@ AllOnWords (l ∷ ls) = OnWords l × AllOnWords ls
 -- each number that a block's lines spell out has 32 bits
 abbrev pub HasWords : Block → Type 0
 HasWords b = AllOnWords b.lines
+
+-- each number that a block's lines and outs spell out has 32 bits
+pub record SpellsWords (b : Block) : Type 0 where
+  pub lines : HasWords b
+  pub outs : (v : ℕ) → IsWord (get_or b.outs v (Num 0))
 
 -- they are bytes
 abbrev pub AllSmall : List ℕ → Type 0

@@ -1,0 +1,3 @@
+pub mod NeverCalls
+pub mod Appended
+pub mod StepsMean
