@@ -11,10 +11,10 @@ use Rattle.br_word.specs.Memory.{Region, load, store, put_over, bytes_of}
 use Rattle.br_word.specs.Words as words
 use Rattle.br_word.specs.Words.{bit, size_of, bits_of, signed}
 use Rattle.br_word.specs.Flags.{shift_value, shift_of, add_result, sub_result}
-use Rattle.br_word.specs.State.{Cpu, State}
+use Rattle.br_word.specs.State.{Processor, State}
 use Rattle.ia_inst.specs.declared.inst.Count.{Count}
 use Rattle.ia_inst.specs.declared.inst.Count.TheVariants as count
-use Rattle.ia_inst.specs.Act.{Act, Ends, Changes, Past, flags_after, marks_after, End, Next, perform}
+use Rattle.ia_inst.specs.Act.{Act, Ends, Changes, Past, flags_after, marks_after, Completion, Next, perform}
 use Rattle.ia_inst.specs.Meaning.{Result, meaning, alu, of_sum, of_logic, shift_changes, product_changes, flags_of_ah, product_changes, flags_of_ah, of_src, to_rm, address_of, no_changes, condition, count_of, shifted, sign_extended, reg_value}
 use Rattle.ia_inst.specs.Wide.{product_overflows}
 use Rattle.par_moves.specs.declared.locations.Place.{Place}
@@ -22,14 +22,14 @@ use Rattle.par_moves.specs.declared.locations.Place.TheVariants.{Reg, Slot}
 use Rattle.par_moves.specs.declared.locations.MoveSource.{MoveSource as Source}
 use Rattle.par_moves.specs.declared.locations.MoveSource.TheVariants.{Place as Held, Num}
 use Rattle.par_moves.specs.Locations.{rm_of, src_of, slot_at, same_place as place_eq, held, InRange, IsFit}
-use Rattle.code_laws.specs.Words.{low_part}
+use Rattle.code_laws.proofs.Words.{low_part}
 use Rattle.code_laws.specs.Seen.{Cells, IsCode, RegsSeen, Sees}
 use Rattle.code_laws.proofs.Ops.{Op, OMov, OAlu, OCmp, OAdd8, OTest, OTest8, OImul, OShift, OSext, OSetcc, OCmov, OCld, OStd, OSahf, inst, put, celled, flagged, count_in, holds, act, HasLow, IsUsed, overflow, below, equal, sign, parity, Fits, is_quiet}
 use Rattle.code_laws.proofs.Memory.{load_slot, store_slot, own_word, own_byte}
 
 -- the state goes on behind the instruction, and is then seen so
-pub record Wrote (code : Region) (s : State) (n : ℕ) (e : End) (a : Cells) (quiet : Bool) : Type 0 where
-  pub cpu : Cpu
+pub record Wrote (code : Region) (s : State) (n : ℕ) (e : Completion) (a : Cells) (quiet : Bool) : Type 0 where
+  pub cpu : Processor
   pub regions : List Region
   pub goes : e ≡ Next cpu regions (Past n)
   pub sees : (at : ℕ) → Sees code (record s { eip = at; cpu = cpu; regions = regions }) a
@@ -67,7 +67,7 @@ bit_small : (b : Bool) → bit b < 2
 bit_small true = omega arith
 bit_small false = omega arith
 
-pub same_effect : {code : Region} {s : State} {n : ℕ} {e e' : End} {a : Cells} {q : Bool} → e ≡ e' → Wrote code s n e' a q → Wrote code s n e a q
+pub same_effect : {code : Region} {s : State} {n : ℕ} {e e' : Completion} {a : Cells} {q : Bool} → e ≡ e' → Wrote code s n e' a q → Wrote code s n e a q
 same_effect p w = record { cpu = w.cpu; regions = w.regions; goes = p ∙ w.goes; sees = w.sees; same = w.same }
 
 module _ {code : Region} (here : IsCode code) (s : State) (a : Cells) (h : Sees code s a) (n x : ℕ) where

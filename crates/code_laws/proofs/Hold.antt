@@ -5,7 +5,7 @@ use Rattle.std.proofs.lemmas.Bool.{cases_eq, eq-eqb, ne_eqb, and_right, lt-leb, 
 use Rattle.std.proofs.lemmas.Option.{none-some, same_Some}
 use Rattle.br_word.specs.declared.types.Width.{Width}
 use Rattle.br_word.specs.declared.types.Width.TheVariants.{B8, B16, B32}
-use Rattle.br_word.specs.Memory.{Region, Use, Reads, Writes, allows, covers, bytes_at, put_over, written, number_of, bytes_of, load, store}
+use Rattle.br_word.specs.Memory.{Region, Use, Reads, Writes, allows, covers, bytes_at, put_over, written, number_of, bytes_of, load, store, HoldBytes}
 use Rattle.br_word.specs.Words.{size_of}
 use Rattle.br_word.specs.State.{State}
 use Rattle.par_moves.specs.declared.locations.Place.{Place}
@@ -16,7 +16,7 @@ use Rattle.ssa_form.specs.declared.form.Val.TheVariants.{Param, Line as Named}
 use Rattle.ssa_form.specs.declared.form.Line.{Line}
 use Rattle.ssa_form.specs.declared.form.Line.TheVariants.{Bin, One, Select, Load, Store, Gone}
 use Rattle.ssa_form.specs.Value.{Env, value, with_line as name, loaded, stored, line_next, fold, IsAllowed, AllAllowed, bin_value, one_value, select_value}
-use Rattle.code_laws.specs.Words.{low_part}
+use Rattle.run_model.specs.Sound.{LoadsFit, StoresBytes}
 use Rattle.emit_ops.specs.Templates.{held_by, line_code}
 use Rattle.ia_encode.specs.Items.{StandsAt}
 use Rattle.ssa_form.specs.declared.form.Val.TheVariants as lines
@@ -78,6 +78,12 @@ size_pos : (w : Width) → 0 < size_of w
 size_pos B8 = omega arith
 size_pos B16 = omega arith
 size_pos B32 = omega arith
+
+-- what fits its bytes fits 32 bits
+word_fits : (w : Width) (v : ℕ) → v < 256 ^ size_of w → v < 2 ^ 32
+word_fits B8 v h = omega arith
+word_fits B16 v h = omega arith
+word_fits B32 v h = h
 
 module _ {code : Region} (here : IsCode code) where
   code_low : code.start + length code.bytes ≤ 0x07010000
@@ -141,6 +147,7 @@ module _ (limit : ℕ) (home place : ℕ → Place) (last : ℕ → Bool) (laid 
           (cases_eq j i);
       mem = g.besides.outer ∙ h.mem;
       high = h.high;
+      bytes = h.bytes;
     };
     kept = λ q rq kq u. g.others q kq (u i li);
     df = g.df;
@@ -149,7 +156,7 @@ module _ (limit : ℕ) (home place : ℕ → Place) (last : ℕ → Bool) (laid 
     brk = g.besides.brk;
   }
 
-  module _ {code : Region} (here : IsCode code) where
+  module _ (loads : LoadsFit) (stores : StoresBytes) {code : Region} (here : IsCode code) where
     abbrev Onward : List (ℕ × Line) → Env → Cells → ℕ → State → Type 0
     Onward ps e a to t = Comes code to (Left limit home place last ps e a) t
 
@@ -179,14 +186,14 @@ module _ (limit : ℕ) (home place : ℕ → Place) (last : ℕ → Bool) (laid 
         let high = subst (AllHigh 0x07010000) (sym h.mem) h.high in
         let o : load (held a.cell (held_by home place at)) (size_of w) a.outer ≡ Some al.0 = rw (q, h.mem) al.1 in
         gives i li (Load w at) ps e a to al.0 (loaded (load (value e at) (size_of w) e.mem)) (length (line_code home place i (Load w at))) s cs (λ j n u. inr (n, u)) sp h (sym (ap loaded al.1))
-        ((template_means here s a to cs se).load w (held_by home place at) (place i) al.0 (operand at v) (laid.places i li, laid.places_fit i li) (load_outer here s a se (held a.cell (held_by home place at)) (size_of w) al.0 (size_pos w) high o) al.2 st)
+        ((template_means here s a to cs se).load w (held_by home place at) (place i) al.0 (operand at v) (laid.places i li, laid.places_fit i li) (load_outer here s a se (held a.cell (held_by home place at)) (size_of w) al.0 (size_pos w) high o) (word_fits w al.0 (loads (value e at) (size_of w) e.mem al.0 h.bytes al.1)) st)
     line_leads s i (Store w at x) ps e a to cs se li v sp h al st =
         let q = held_value ((i, Store w at x) ∷ ps) e a h at v.0 (λ j n. inl (inl n)) in
         let r = held_value ((i, Store w at x) ∷ ps) e a h x v.1 (λ j n. inl (inr n)) in
         let high = subst (AllHigh 0x07010000) (sym h.mem) h.high in
-        let o : store (held a.cell (held_by home place at)) (size_of w) (low_part w (held a.cell (held_by home place x))) a.outer ≡ Some al.0 = rw (q, r, h.mem) al.1 in
+        let o : store (held a.cell (held_by home place at)) (size_of w) (held a.cell (held_by home place x)) a.outer ≡ Some al.0 = rw (q, r, h.mem) al.1 in
         let m = code ∷ private_region se.own ∷ al.0 in
-        let f = written_high 0x07010000 (held a.cell (held_by home place at)) (bytes_of (size_of w) (low_part w (held a.cell (held_by home place x)))) a.outer al.0 high o in
+        let f = written_high 0x07010000 (held a.cell (held_by home place at)) (bytes_of (size_of w) (held a.cell (held_by home place x))) a.outer al.0 high o in
         let z = sym (ap (stored e.mem) al.1) in
         leads_as a.seen a.seen (Stored a m to) (Onward ps (line_next i (Store w at x) e) a to) 3 s cs refl
         (λ t c. record {
@@ -199,6 +206,7 @@ module _ (limit : ℕ) (home place : ℕ → Place) (last : ℕ → Bool) (laid 
               lines = λ j lj used. stored_kept a m to t c (place j) (laid.places_fit j lj) (laid.places j lj) ∙ h.lines j lj (inr used);
               mem = z;
               high = subst (AllHigh 0x07010000) z f.1;
+              bytes = subst HoldBytes z (stores (value e at) (size_of w) (value e x) e.mem al.0 h.bytes al.1);
             };
             kept = λ p rp kp u. stored_kept a m to t c p rp kp;
             df = refl;
@@ -207,9 +215,9 @@ module _ (limit : ℕ) (home place : ℕ → Place) (last : ℕ → Bool) (laid 
             brk = refl;
           };
         })
-        ((template_means here s a to cs se).store w (held_by home place at) (held_by home place x) m (operand at v.0) (operand x v.1) (store_outer here s a se (held a.cell (held_by home place at)) (size_of w) (low_part w (held a.cell (held_by home place x))) al.0 (size_pos w) high o) st)
+        ((template_means here s a to cs se).store w (held_by home place at) (held_by home place x) m (operand at v.0) (operand x v.1) (store_outer here s a se (held a.cell (held_by home place at)) (size_of w) (held a.cell (held_by home place x)) al.0 (size_pos w) high o) st)
     line_leads s i Gone ps e a to cs se li v sp h al st =
-        leads_none (Quiet a.seen) (Onward ps e a to) s cs (record { cells = a; sees = se; eip = st; holds = record { holds = record { params = h.params; lines = λ j lj used. h.lines j lj (inr used); mem = h.mem; high = h.high }; kept = λ q rq kq u. refl; df = refl; seen = refl; brk_start = refl; brk = refl } })
+        leads_none (Quiet a.seen) (Onward ps e a to) s cs (record { cells = a; sees = se; eip = st; holds = record { holds = record { params = h.params; lines = λ j lj used. h.lines j lj (inr used); mem = h.mem; high = h.high; bytes = h.bytes }; kept = λ q rq kq u. refl; df = refl; seen = refl; brk_start = refl; brk = refl } })
 
     pub lines_hold : LinesHold code limit home place last
     lines_hold [] s e a to cs se safe h al st = leads_none (Quiet a.seen) (Onward [] e a to) s cs (record { cells = a; sees = se; eip = st; holds = record { holds = h; kept = λ q rq kq u. refl; df = refl; seen = refl; brk_start = refl; brk = refl } })

@@ -1,3 +1,4 @@
+pub mod Words
 pub mod Ops
 pub mod Memory
 pub mod Follows

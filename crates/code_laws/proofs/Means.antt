@@ -11,7 +11,7 @@ use Rattle.ia_inst.specs.declared.inst.Src.TheVariants as src
 use Rattle.ia_inst.specs.Canonical.{canonical}
 use Rattle.ia_inst.specs.Act.{Next, Past, perform}
 use Rattle.ia_inst.specs.Meaning.{meaning, wrap, no_changes, address_of}
-use Rattle.ia_inst.specs.Step.{way_of, settled}
+use Rattle.ia_inst.specs.Step.{result_of, settled}
 use Rattle.run_model.specs.Run.{first_choice}
 use Rattle.par_moves.specs.declared.locations.Place.{Place}
 use Rattle.par_moves.specs.declared.locations.Place.TheVariants.{Reg, Slot}
@@ -24,10 +24,11 @@ use Rattle.ssa_form.specs.declared.form.BinOp.TheVariants.{Add, Sub, And, Or, Xo
 use Rattle.ssa_form.specs.declared.form.OneOp.{OneOp}
 use Rattle.ssa_form.specs.declared.form.OneOp.TheVariants.{Parity, Sext8, Sext16}
 use Rattle.ssa_form.specs.Value.{bin_value, one_value, select_value}
-use Rattle.code_laws.specs.Words.{low_part}
+use Rattle.code_laws.proofs.Words.{low_part}
 use Rattle.ia_encode.specs.Items.{StandsAt}
 use Rattle.code_laws.specs.Seen.{Cells, IsCode, Sees, Leads, Quiet}
 use Rattle.code_laws.specs.Laws.{Comes, Gave, Stored, IsOperand, IsResult, Means, TemplateMeans}
+use Rattle.code_laws.proofs.Memory.{store_low}
 use Rattle.code_laws.proofs.Ops.{Op, OMov, inst, acts, celled, AllFit, overflow, below, equal, parity}
 use Rattle.code_laws.proofs.Follows.{Wrote, same_effect, reg_wrote, held_small}
 use Rattle.code_laws.proofs.Runs.{leads_as, leads_then, leads_none, Done, runs, step_then}
@@ -98,11 +99,17 @@ module _ {code : Region} (here : IsCode code) where
   load_wrote B32 s a n x v h e l = same_effect (rw (by_eax_is s a h, e)) (reg_wrote here s a h n x 0 v no_changes (omega arith) l)
 
   -- only the memory is another
-  store_goes : (w : Width) (s : State) (a : Cells) (n x : ℕ) (m : List Region) → Sees code s a → store (a.cell (Reg 0)) (size_of w) (low_part w (a.cell (Reg 1))) s.regions ≡ Some m → perform (meaning (Mov w by_eax (src.Rm ecx)) n s.cpu.regs s.eip s.cpu.df) x s.cpu s.regions ≡ Next s.cpu m (Past n)
+  store_goes : (w : Width) (s : State) (a : Cells) (n x : ℕ) (m : List Region) → Sees code s a → store (a.cell (Reg 0)) (size_of w) (a.cell (Reg 1)) s.regions ≡ Some m → perform (meaning (Mov w by_eax (src.Rm ecx)) n s.cpu.regs s.eip s.cpu.df) x s.cpu s.regions ≡ Next s.cpu m (Past n)
   unfolding meaning
-  store_goes B8 s a n x m h e = rw (by_eax_is s a h, h.regs.each 1 (omega arith), e)
-  store_goes B16 s a n x m h e = rw (by_eax_is s a h, h.regs.each 1 (omega arith), e)
-  store_goes B32 s a n x m h e = rw (by_eax_is s a h, h.regs.each 1 (omega arith), e)
+  store_goes B8 s a n x m h e =
+      let f : store (a.cell (Reg 0)) (size_of B8) (low_part B8 (a.cell (Reg 1))) s.regions ≡ Some m = store_low B8 (a.cell (Reg 0)) (a.cell (Reg 1)) s.regions ∙ e in
+      rw (by_eax_is s a h, h.regs.each 1 (omega arith), f)
+  store_goes B16 s a n x m h e =
+      let f : store (a.cell (Reg 0)) (size_of B16) (low_part B16 (a.cell (Reg 1))) s.regions ≡ Some m = store_low B16 (a.cell (Reg 0)) (a.cell (Reg 1)) s.regions ∙ e in
+      rw (by_eax_is s a h, h.regs.each 1 (omega arith), f)
+  store_goes B32 s a n x m h e =
+      let f : store (a.cell (Reg 0)) (size_of B32) (low_part B32 (a.cell (Reg 1))) s.regions ≡ Some m = store_low B32 (a.cell (Reg 0)) (a.cell (Reg 1)) s.regions ∙ e in
+      rw (by_eax_is s a h, h.regs.each 1 (omega arith), f)
 
   pub load_leads : (s : State) (a : Cells) (to : ℕ) (cs : List ℕ) → Sees code s a → (w : Width) (x : Source) (r : Place) (v : ℕ) → IsOperand x → IsResult r → load (held a.cell x) (size_of w) s.regions ≡ Some v → v < 2 ^ 32 → Means code s a (load_code w x r) to cs r v
   load_leads s a to cs h w x r v hx hr e l st =
@@ -120,12 +127,12 @@ module _ {code : Region} (here : IsCode code) where
       let f : wrap (t.eip + n) ≡ t.eip + n = omega arith in
       let t1 = record t { eip = t.eip + n; cpu = o.cpu; regions = o.regions } in
       step_then here t d (load_inst w) n 1 ds (Comes code to (Gave a r v)) t1 q.sees st1.0
-      (ap (λ z. settled (way_of z t) t) o.goes ∙ ap (λ p. record t { eip = p; cpu = o.cpu; regions = o.regions }) f)
+      (ap (λ z. settled (result_of z t) t) o.goes ∙ ap (λ p. record t { eip = p; cpu = o.cpu; regions = o.regions }) f)
       (ops_lead (keep_op r ∷ []) (keep r ∷ []) t1 (celled d (Reg 0) v) to (drop 1 ds) (Gave a r v) refl (o.sees (t.eip + n)) ((hr.1, omega arith), tt)
       (λ es. record { value = simp place_eq_refl; others = λ p hp n. simp (n, hp.not_eax); df = refl; besides = record { outer = refl; seen = refl; brk_start = refl; brk = refl } })
       st1.1))
 
-  pub store_leads : (s : State) (a : Cells) (to : ℕ) (cs : List ℕ) → Sees code s a → (w : Width) (x y : Source) (m : List Region) → IsOperand x → IsOperand y → store (held a.cell x) (size_of w) (low_part w (held a.cell y)) s.regions ≡ Some m → StandsAt code s.eip (store_code w x y) to → Leads (Quiet a.seen) (Stored a m to) 3 s cs
+  pub store_leads : (s : State) (a : Cells) (to : ℕ) (cs : List ℕ) → Sees code s a → (w : Width) (x y : Source) (m : List Region) → IsOperand x → IsOperand y → store (held a.cell x) (size_of w) (held a.cell y) s.regions ≡ Some m → StandsAt code s.eip (store_code w x y) to → Leads (Quiet a.seen) (Stored a m to) 3 s cs
   store_leads s a to cs h w x y m hx hy e st =
       let os = OMov (Reg 0) x ∷ OMov (Reg 1) y ∷ [] in
       let d1 = celled a (Reg 0) (held a.cell x) in
@@ -137,15 +144,15 @@ module _ {code : Region} (here : IsCode code) where
       let i = Mov w by_eax (src.Rm ecx) in
       let n = length (canonical i) in
       let st1 = subst (λ p. StandsAt code p (i ∷ []) to) (sym q.eip) st.1.1 in
-      let e1 = subst (λ v. store (held a.cell x) (size_of w) (low_part w v) s.regions ≡ Some m) (sym (held_eax y (held a.cell x) a.cell hy.0)) e in
-      let e2 = subst (λ rs. store (held a.cell x) (size_of w) (low_part w (held d1.cell y)) rs ≡ Some m) (sym (q.same refl)) e1 in
+      let e1 = subst (λ v. store (held a.cell x) (size_of w) v s.regions ≡ Some m) (sym (held_eax y (held a.cell x) a.cell hy.0)) e in
+      let e2 = subst (λ rs. store (held a.cell x) (size_of w) (held d1.cell y) rs ≡ Some m) (sym (q.same refl)) e1 in
       let b = here.below in
       let u = st1.0.ends in
       let f : wrap (t.eip + n) ≡ t.eip + n = omega arith in
       let t1 = record t { eip = t.eip + n; regions = m } in
       let g = q.sees in
       step_then here t d i n 0 ds (Stored a m to) t1 g st1.0
-      (ap (λ z. settled (way_of z t) t) (store_goes w t d n (first_choice ds) m g e2) ∙ ap (λ p. record t { eip = p; regions = m }) f)
+      (ap (λ z. settled (result_of z t) t) (store_goes w t d n (first_choice ds) m g e2) ∙ ap (λ p. record t { eip = p; regions = m }) f)
       (leads_none (Quiet d.seen) (Stored a m to) t1 (drop 1 ds) (record {
         eip = st1.1;
         regions = refl;

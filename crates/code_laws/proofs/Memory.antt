@@ -1,11 +1,15 @@
 -- The private segment as words, and the memory behind it.
 use Rattle.std.specs.Int.{byte_at, bytes_low_first}
-use Rattle.std.proofs.Common.{◌≡◌, ℕ, zero, suc, ◌+◌, ◌-◌, ◌*◌, ◌/◌, ◌%◌, ◌^◌, ◌<◌, ◌≤◌, true, false, List, [], ◌∷◌, ◌++◌, length, take, drop, Some, nat_eq, nat_le, if◌then◌else◌, refl, ap, ◌∙◌, arith, ⊎_elim, ◌≢◌, get_or, length-append, length-take, length-drop}
+use Rattle.std.proofs.Common.{◌≡◌, ℕ, zero, suc, ◌+◌, ◌-◌, ◌*◌, ◌/◌, ◌%◌, ◌^◌, ◌<◌, ◌≤◌, true, false, List, [], ◌∷◌, ◌++◌, length, take, drop, Some, nat_eq, nat_le, if◌then◌else◌, refl, sym, ap, ◌∙◌, arith, ⊎_elim, ◌≢◌, get_or, length-append, length-take, length-drop}
 use Rattle.std.proofs.lemmas.Bool.{cases_eq, cases_lt, le-leb, lt-leb, and_right, and_from, eq-eqb, ne_eqb}
 use Rattle.std.proofs.lemmas.List.{places, drop_more}
 use Rattle.br_word.specs.Memory.{Region, covers, bytes_at, put_over, written, number_of, bytes_of, load, store}
+use Rattle.br_word.specs.declared.types.Width.{Width}
+use Rattle.br_word.specs.declared.types.Width.TheVariants.{B8, B16, B32}
+use Rattle.br_word.specs.Words.{size_of}
 use Rattle.par_moves.specs.Locations.{slot_at}
 use Rattle.code_laws.specs.Seen.{private_region, word, IsCode, OwnSeen}
+use Rattle.code_laws.proofs.Words.{low_part}
 
 outside_code : (code : Region) (at n : ℕ) → 0 < n → IsCode code → 0x07000000 ≤ at → covers code at n ≡ false
 outside_code code at n z h l = let b = h.below in and_right (nat_le code.start at) _ (lt-leb (at + n) (code.start + length code.bytes) (omega arith))
@@ -77,6 +81,22 @@ bytes_4 v = grind arith
 bytes_1 : (v : ℕ) → bytes_of 1 v ≡ v % 256 ∷ []
 unfolding bytes_of
 bytes_1 v = grind arith
+
+bytes_2 : (v : ℕ) → bytes_of 2 v ≡ v % 256 ∷ v / 256 % 256 ∷ []
+unfolding bytes_of
+bytes_2 v = grind arith
+
+-- a store writes the low part of a number
+low_bytes : (w : Width) (v : ℕ) → bytes_of (size_of w) (low_part w v) ≡ bytes_of (size_of w) v
+low_bytes B8 v = let e : v % 256 % 256 ≡ v % 256 = omega arith in bytes_1 (v % 256) ∙ ap (λ x. x ∷ []) e ∙ sym (bytes_1 v)
+low_bytes B16 v =
+    let e : v % 2 ^ 16 % 256 ≡ v % 256 = omega arith in
+    let f : v % 2 ^ 16 / 256 % 256 ≡ v / 256 % 256 = omega arith in
+    bytes_2 (v % 2 ^ 16) ∙ ap (λ x. x ∷ v % 2 ^ 16 / 256 % 256 ∷ []) e ∙ ap (λ x. v % 256 ∷ x ∷ []) f ∙ sym (bytes_2 v)
+low_bytes B32 v = refl
+
+pub store_low : (w : Width) (at v : ℕ) (rs : List Region) → store at (size_of w) (low_part w v) rs ≡ store at (size_of w) v rs
+store_low w at v rs = ap (λ bs. written at bs rs) (low_bytes w v)
 
 word_same : (l : List ℕ) (k v : ℕ) → 4 * k + 4 ≤ length l → v < 2 ^ 32 → word (put_over l (4 * k) (bytes_of 4 v)) k ≡ v
 word_same l k v h lv =

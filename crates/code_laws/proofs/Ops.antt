@@ -19,7 +19,7 @@ use Rattle.par_moves.specs.declared.locations.Place.{Place}
 use Rattle.par_moves.specs.declared.locations.Place.TheVariants.{Reg, Slot}
 use Rattle.par_moves.specs.declared.locations.MoveSource.{MoveSource as Source}
 use Rattle.par_moves.specs.Locations.{rm_of, src_of, same_place as place_eq, held, InRange, IsFit}
-use Rattle.code_laws.specs.Words.{low_part}
+use Rattle.code_laws.proofs.Words.{low_part}
 use Rattle.emit_ops.specs.Templates.{eax, ecx}
 use Rattle.code_laws.specs.Seen.{Cells}
 

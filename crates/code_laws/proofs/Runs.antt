@@ -9,7 +9,7 @@ use Rattle.ia_inst.specs.declared.inst.Inst.TheVariants.{Jcc, Jmp}
 use Rattle.ia_inst.specs.Canonical.{canonical}
 use Rattle.ia_inst.specs.Act.{perform, Past, To}
 use Rattle.ia_inst.specs.Meaning.{meaning, wrap}
-use Rattle.ia_inst.specs.Step.{There, found, place_of, way_of, settled, step}
+use Rattle.ia_inst.specs.Step.{There, found, next_eip, result_of, settled, step}
 use Rattle.run_model.specs.Run.{Observation, first_choice, run}
 use Rattle.code_laws.specs.Seen.{Cells, IsCode, Sees, Leads, Quiet}
 use Rattle.ia_encode.specs.Items.{Reads, StandsAt, distance}
@@ -79,7 +79,7 @@ found_is {code = code} here s a h i n r =
     let c : covers code s.eip 1 ≡ true = and_from _ _ (le-leb code.start s.eip (omega arith)) (le-leb (s.eip + 1) (code.start + length code.bytes) (omega arith)) in
     ap (found s.eip) h.regions ∙ rw (c, here.runs, r.spelled)
 
-pub step_is : (s : State) (i : Inst) (n x : ℕ) → s.stop ≡ Running → found s.eip s.regions ≡ There i n → step s x ≡ settled (way_of (perform (meaning i n s.cpu.regs s.eip s.cpu.df) x s.cpu s.regions) s) s
+pub step_is : (s : State) (i : Inst) (n x : ℕ) → s.stop ≡ Running → found s.eip s.regions ≡ There i n → step s x ≡ settled (result_of (perform (meaning i n s.cpu.regs s.eip s.cpu.df) x s.cpu s.regions) s) s
 unfolding step
 step_is s i n x live f = rw (live, f)
 
@@ -87,7 +87,7 @@ pub quiet_here : {code : Region} → IsCode code → (s : State) (a : Cells) →
 quiet_here here s a h i n r = let b = here.below in let l = r.starts in record { shows = h.seen; live = h.running; in_code = omega arith }
 
 -- one step, and what comes after it
-pub step_then : {code : Region} → IsCode code → (s : State) (a : Cells) (i : Inst) (n k : ℕ) (cs : List ℕ) (P : State → Type 0) (t : State) → Sees code s a → Reads code s.eip i n → settled (way_of (perform (meaning i n s.cpu.regs s.eip s.cpu.df) (first_choice cs) s.cpu s.regions) s) s ≡ t → Leads (Quiet a.seen) P k t (drop 1 cs) → Leads (Quiet a.seen) P (suc k) s cs
+pub step_then : {code : Region} → IsCode code → (s : State) (a : Cells) (i : Inst) (n k : ℕ) (cs : List ℕ) (P : State → Type 0) (t : State) → Sees code s a → Reads code s.eip i n → settled (result_of (perform (meaning i n s.cpu.regs s.eip s.cpu.df) (first_choice cs) s.cpu s.regions) s) s ≡ t → Leads (Quiet a.seen) P k t (drop 1 cs) → Leads (Quiet a.seen) P (suc k) s cs
 unfolding Leads
 step_then here s a i n k cs P t h r e l = (quiet_here here s a h i n r, rw (step_is s i n (first_choice cs) h.running (found_is here s a h i n r) ∙ e) l)
 
@@ -125,7 +125,7 @@ runs {code = code} here (o ∷ os) s a to cs h fit st =
     let e : wrap (s.eip + n) ≡ s.eip + n = omega arith in
     let t = record s { eip = s.eip + n; cpu = w.cpu; regions = w.regions } in
     step_then here s a (inst o) n (length os) cs (Done code (o ∷ os) s a to) t h st.0
-    (ap (λ d. settled (way_of d s) s) w.goes ∙ ap (λ p. record s { eip = p; cpu = w.cpu; regions = w.regions }) e)
+    (ap (λ d. settled (result_of d s) s) w.goes ∙ ap (λ p. record s { eip = p; cpu = w.cpu; regions = w.regions }) e)
     (leads_as (act o a x).seen a.seen (Done code os t (act o a x) to) (Done code (o ∷ os) s a to) (length os) t (drop 1 cs) (act_seen o a x)
     (λ u d. record { choices = x ∷ d.choices; sees = d.sees; eip = d.eip; same = λ q. let p = and_parts (is_quiet o) (are_quiet os) q in d.same p.1 ∙ w.same p.0 })
     (runs here os t (act o a x) to (drop 1 cs) (w.sees (s.eip + n)) fit.1 st.1))
@@ -148,7 +148,7 @@ jz_taken here s a to k cs P h f r z l =
     let b = here.below in
     let e = r.ends in
     let z' : s.cpu.flags.zf ≡ true = ap (λ g. g.zf) h.flags ∙ z in
-    step_then here s a (Jcc 4 (distance (s.eip + 6) to)) 6 k cs P (record s { eip = to }) h r (ap (λ z. record s { eip = place_of (if z then To (wrap (s.eip + 6 + distance (s.eip + 6) to)) else Past 6) s.eip }) z' ∙ ap (λ p. record s { eip = p }) (lands (s.eip + 6) to (omega arith) f)) l
+    step_then here s a (Jcc 4 (distance (s.eip + 6) to)) 6 k cs P (record s { eip = to }) h r (ap (λ z. record s { eip = next_eip (if z then To (wrap (s.eip + 6 + distance (s.eip + 6) to)) else Past 6) s.eip }) z' ∙ ap (λ p. record s { eip = p }) (lands (s.eip + 6) to (omega arith) f)) l
 
 pub jz_past : {code : Region} → IsCode code → (s : State) (a : Cells) (to k : ℕ) (cs : List ℕ) (P : State → Type 0) → Sees code s a → Reads code s.eip (Jcc 4 (distance (s.eip + 6) to)) 6 → a.flags.zf ≡ false → Leads (Quiet a.seen) P k (record s { eip = s.eip + 6 }) (drop 1 cs) → Leads (Quiet a.seen) P (suc k) s cs
 unfolding meaning
@@ -157,4 +157,4 @@ jz_past here s a to k cs P h r z l =
     let e = r.ends in
     let z' : s.cpu.flags.zf ≡ false = ap (λ g. g.zf) h.flags ∙ z in
     let p : wrap (s.eip + 6) ≡ s.eip + 6 = omega arith in
-    step_then here s a (Jcc 4 (distance (s.eip + 6) to)) 6 k cs P (record s { eip = s.eip + 6 }) h r (ap (λ z. record s { eip = place_of (if z then To (wrap (s.eip + 6 + distance (s.eip + 6) to)) else Past 6) s.eip }) z' ∙ ap (λ p. record s { eip = p }) p) l
+    step_then here s a (Jcc 4 (distance (s.eip + 6) to)) 6 k cs P (record s { eip = s.eip + 6 }) h r (ap (λ z. record s { eip = next_eip (if z then To (wrap (s.eip + 6 + distance (s.eip + 6) to)) else Past 6) s.eip }) z' ∙ ap (λ p. record s { eip = p }) p) l

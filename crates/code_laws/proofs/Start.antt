@@ -8,7 +8,7 @@ use Rattle.ia_inst.specs.declared.inst.Inst.TheVariants.{Jcc, Jmp, JmpRm}
 use Rattle.ia_inst.specs.Canonical.{canonical}
 use Rattle.ia_inst.specs.Act.{Ends, Past, To}
 use Rattle.ia_inst.specs.Meaning.{meaning, wrap, no_changes}
-use Rattle.ia_inst.specs.Step.{place_of, way_of, settled}
+use Rattle.ia_inst.specs.Step.{next_eip, result_of, settled}
 use Rattle.run_model.specs.Run.{first_choice}
 use Rattle.par_moves.specs.declared.locations.Place.{Place}
 use Rattle.par_moves.specs.declared.locations.Place.TheVariants.{Reg, Slot}
@@ -67,7 +67,7 @@ module _ {code : Region} (here : IsCode code) where
       step_then here s a (Jmp (distance (s.eip + 5) to)) 5 0 cs (λ t. t ≡ record s { eip = to }) (record s { eip = to }) h r (ap (λ p. record s { eip = p }) (lands (s.eip + 5) to (omega arith) f)) (ends s a (drop 1 cs) to)
 
   -- a condition that is z
-  places : (s : State) (to : ℕ) (z : Bool) → s.eip + 6 ≤ 2 ^ 32 → s.eip + 6 < 2 ^ 32 → to < 2 ^ 32 → place_of (if z then To (wrap (s.eip + 6 + distance (s.eip + 6) to)) else Past 6) s.eip ≡ (if z then to else s.eip + 6)
+  places : (s : State) (to : ℕ) (z : Bool) → s.eip + 6 ≤ 2 ^ 32 → s.eip + 6 < 2 ^ 32 → to < 2 ^ 32 → next_eip (if z then To (wrap (s.eip + 6 + distance (s.eip + 6) to)) else Past 6) s.eip ≡ (if z then to else s.eip + 6)
   places s to true l m f = lands (s.eip + 6) to l f
   places s to false l m f = omega arith
 
@@ -98,7 +98,7 @@ module _ {code : Region} (here : IsCode code) where
   by_slot s a k cs h f r =
       let n = length (canonical (JmpRm (rm_of (Slot k)))) in
       step_then here s a (JmpRm (rm_of (Slot k))) n 0 cs (λ t. t ≡ record s { eip = a.cell (Slot k) }) (record s { eip = a.cell (Slot k) }) h r
-      (ap (λ z. settled (way_of z s) s) (reads here s a h n (first_choice cs) (Held (Slot k)) f (λ v. Ends s.cpu.regs s.cpu.df no_changes (To v)))) (ends s a (drop 1 cs) (a.cell (Slot k)))
+      (ap (λ z. settled (result_of z s) s) (reads here s a h n (first_choice cs) (Held (Slot k)) f (λ v. Ends s.cpu.regs s.cpu.df no_changes (To v)))) (ends s a (drop 1 cs) (a.cell (Slot k)))
 
   pub jumps_lead : (dest : Dest → ℕ) → JumpsLead code dest
   jumps_lead dest = record {

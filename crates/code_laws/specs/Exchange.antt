@@ -1,5 +1,5 @@
 -- What the exchange of state does, in cells.
-use Rattle.std.specs.Prelude.{◌≡◌, ℕ, ◌<◌, ◌≤◌, List}
+use Rattle.std.specs.Prelude.{◌≡◌, ℕ, ◌<◌, ◌≤◌, List, true}
 use Rattle.br_word.specs.Words.{bit}
 use Rattle.br_word.specs.State.{all_flags}
 use Rattle.par_moves.specs.declared.locations.Place.TheVariants.{Reg, Slot}

@@ -19,7 +19,6 @@ use Rattle.par_moves.specs.Locations.{rm_of, same_place as place_eq, held, InRan
 use Rattle.ssa_form.specs.declared.form.BinOp.{BinOp}
 use Rattle.ssa_form.specs.declared.form.OneOp.{OneOp}
 use Rattle.ssa_form.specs.Value.{bin_value, one_value, select_value}
-use Rattle.code_laws.specs.Words.{low_part}
 use Rattle.emit_ops.specs.Templates.{eax, load_reg, bin_code, one_code, select_code, load_code, store_code, move_code}
 use Rattle.ia_encode.specs.declared.item.Dest.{Dest}
 use Rattle.ia_encode.specs.declared.item.Item.{Item}
@@ -150,7 +149,7 @@ pub record TemplateMeans (code : Region) (s : State) (a : Cells) (to : ℕ) (cs 
       Means code s a (load_code w x r) to cs r v
   -- a store that the whole memory allows
   pub store : (w : Width) (x y : Source) (m : List Region) → IsOperand x → IsOperand y →
-      store (held a.cell x) (size_of w) (low_part w (held a.cell y)) s.regions ≡ Some m →
+      store (held a.cell x) (size_of w) (held a.cell y) s.regions ≡ Some m →
       StandsAt code s.eip (store_code w x y) to →
       Leads (Quiet a.seen) (Stored a m to) 3 s cs
   -- to any place from any source, a home or not

@@ -1,4 +1,3 @@
-pub mod Words
 pub mod Seen
 pub mod Exchange
 pub mod Laws

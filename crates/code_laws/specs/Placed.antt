@@ -1,6 +1,6 @@
 -- A list of placed lines, and what its code leaves.
 use Rattle.std.specs.Prelude.{◌≡◌, ℕ, ◌+◌, ◌^◌, ◌<◌, ◌≤◌, Bool, true, false, List, [], ◌∷◌, ◌++◌, length, ◌⊎◌, ◌≢◌, if◌then◌else◌}
-use Rattle.br_word.specs.Memory.{Region}
+use Rattle.br_word.specs.Memory.{Region, HoldBytes}
 use Rattle.br_word.specs.State.{State}
 use Rattle.ia_inst.specs.declared.inst.Inst.{Inst}
 use Rattle.par_moves.specs.declared.locations.Place.{Place}
@@ -9,7 +9,7 @@ use Rattle.par_moves.specs.declared.locations.MoveSource.{MoveSource as Source}
 use Rattle.par_moves.specs.Locations.{same_place as place_eq, held, InRange, IsKept}
 use Rattle.ssa_form.specs.declared.form.Val.{Val}
 use Rattle.ssa_form.specs.declared.form.Val.TheVariants.{Param, Line as Named}
-use Rattle.par_moves.specs.declared.locations.MoveSource.TheVariants.{Num}
+use Rattle.ssa_form.specs.declared.form.Val.TheVariants as val
 use Rattle.ssa_form.specs.declared.form.Line.{Line}
 use Rattle.ssa_form.specs.declared.form.Line.TheVariants.{Bin, One, Select, Load, Store, Gone}
 use Rattle.ssa_form.specs.Value.{Env, fold, AllAllowed}
@@ -27,7 +27,7 @@ lines_code home place (p ∷ ps) = line_code home place p.0 p.1 ++ lines_code ho
 abbrev pub IsNamed : Val → ℕ → Type 0
 IsNamed (Param v) j = ⊥
 IsNamed (Named k) j = k ≡ j
-IsNamed (Num n) j = ⊥
+IsNamed (val.Num n) j = ⊥
 
 abbrev pub Names : Line → ℕ → Type 0
 Names (Bin op a b) j = IsNamed a j ⊎ IsNamed b j
@@ -56,7 +56,7 @@ AllHigh low (r ∷ rs) = (low ≤ r.start) × AllHigh low rs
 abbrev pub IsVal : ℕ → Val → Type 0
 IsVal limit (Param v) = v < 14
 IsVal limit (Named j) = j < limit
-IsVal limit (Num n) = n < 2 ^ 32
+IsVal limit (val.Num n) = n < 2 ^ 32
 
 abbrev pub ValsOf : ℕ → Line → Type 0
 ValsOf limit (Bin op a b) = IsVal limit a × IsVal limit b
@@ -90,6 +90,7 @@ pub record Holds (limit : ℕ) (home place : ℕ → Place) (last : ℕ → Bool
   pub lines : (j : ℕ) → j < limit → Used last ps j → a.cell (place j) ≡ e.lines j
   pub mem : a.outer ≡ e.mem
   pub high : AllHigh 0x07010000 e.mem
+  pub bytes : HoldBytes e.mem
 
 -- no line's place
 abbrev pub IsUntaken : ℕ → (ℕ → Place) → Place → Type 0

@@ -29,7 +29,9 @@ pub fn template_means()
 /// The code of a list of lines, each in its place, leaves the values of their fold, wherever it stands.
 pub fn lines_hold()
     ensures { (code : Region) (limit : ℕ) (home place : ℕ → Place) (last : ℕ → Bool) → IsCode code → Laid limit home place → LinesHold code limit home place last }
-{}
+{
+    run_model::memory_of_bytes();
+}
 
 /// The own bytes of a native instruction are found as it.
 pub fn own_found()
