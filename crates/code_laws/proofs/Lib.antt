@@ -11,6 +11,7 @@ pub mod Hold
 pub mod Own
 pub mod Start
 pub mod Moves
+pub mod Settle
 pub mod Valid
 pub mod Tests
 pub mod Slots

@@ -111,33 +111,6 @@ LinesHold code limit home place last = (ps : List (ℕ × Line)) (s : State) (e 
     Safe limit place last ps → Holds limit home place last ps e a → AllAllowed ps e → StandsAt code s.eip (lines_code home place ps) to →
     Leads (Quiet a.seen) (Comes code to (Left limit home place last [] (fold ps e) a)) (length (lines_code home place ps)) s cs
 
--- ---- moves
-
-abbrev pub moves_code : List (Place × Source) → List Inst
-moves_code [] = []
-moves_code (m ∷ ms) = move_code m.0 m.1 ++ moves_code ms
-
--- places after moves, one after another
-abbrev pub moved : List (Place × Source) → (Place → ℕ) → Place → ℕ
-moved [] f = f
-moved (m ∷ ms) f = moved ms (λ q. if place_eq q m.0 then held f m.1 else f q)
-
-abbrev pub AllServe : List (Place × Source) → Type 0
-AllServe [] = Unit {0}
-AllServe (m ∷ ms) = IsResult m.0 × IsOperand m.1 × AllServe ms
-
--- the places hold what the moves give them
-pub record Moved (a : Cells) (f : Place → ℕ) (b : Cells) : Type 0 where
-  pub holds : (q : Place) → IsKept q → b.cell q ≡ f q
-  pub df : b.df ≡ a.df
-  pub besides : Besides a b
-
--- The code of moves does them, after exactly its length in steps.
-abbrev pub MovesHold : Region → Type 0
-MovesHold code = (ms : List (Place × Source)) (s : State) (a : Cells) (to : ℕ) (cs : List ℕ) → Sees code s a → AllServe ms →
-    StandsAt code s.eip (moves_code ms) to →
-    Leads (Quiet a.seen) (Comes code to (Moved a (moved ms a.cell))) (length (moves_code ms)) s cs
-
 -- ---- each parameter and each line in a slot of its own
 
 abbrev pub slot_home : ℕ → Place

@@ -10,7 +10,9 @@ ghost use Rattle.par_moves.specs.Homes.{AreHomes};
 ghost use Rattle.code_laws.specs.Exchange.{Homes, FlagsHeld};
 ghost use Rattle.code_laws.specs.Laws.{ExchangeKeeps, TemplateMeans, OwnFound, IslandKeeps, StartSeen, JumpsLead, TestsMean};
 ghost use Rattle.par_moves.specs.declared.locations.Place.{Place};
-ghost use Rattle.code_laws.specs.Placed.{Laid, LinesHold, MovesHold, SlotsServe};
+ghost use Rattle.code_laws.specs.Moves.{AreOuts, HomesApart, MayBeGiven, MovesHold, MovesSettle, live_moves};
+ghost use Rattle.code_laws.specs.Placed.{Laid, LinesHold, SlotsServe};
+ghost use Rattle.ssa_form.specs.declared.form.Val.{Val};
 ghost use Rattle.code_laws.specs.Valid.{CodeValid};
 
 /// Capture, restore, and the opening and closing of a native instruction exchange the virtual and
@@ -60,6 +62,17 @@ pub fn jumps_lead()
 pub fn moves_hold()
     ensures { (code : Region) → IsCode code → MovesHold code }
 {}
+
+/// The moves on the way to another block may be given to `sequence`, and their code puts the operand of each live register's out, read
+/// before the moves, into its home, and leaves each other home and place. Before a side exit every register is live.
+pub fn moves_settle()
+    ensures given { (limit : ℕ) (home place : ℕ → Place) (live : ℕ → Bool) (outs : List Val) → HomesApart home → AreOuts limit outs →
+        MayBeGiven (live_moves home place live 0 outs) }
+    ensures settled { (code : Region) (limit : ℕ) (home place : ℕ → Place) → IsCode code → Laid limit home place → HomesApart home →
+        MovesSettle code limit home place }
+{
+    par_moves::moves_at_once();
+}
 
 /// The code of lines, moves and native instructions is valid, with each label once; and its sizes.
 pub fn code_valid()
