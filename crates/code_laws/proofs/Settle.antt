@@ -71,7 +71,7 @@ serve_in_order (suc n) (m ∷ ms) h x i = turned (find (is_ready (m ∷ ms)) (m 
 
 -- ---- the moves of a live set
 
-none : Val
+abbrev none : Val
 none = val.Num 0
 
 itself_is : (v : ℕ) (out : Val) → keeps_itself v out ≡ true → out ≡ val.Param v
@@ -97,15 +97,15 @@ module _ (home place : ℕ → Place) (live : ℕ → Bool) where
 
   in_live : (v : ℕ) (outs : List Val) (m : PlaceMove) → In (live_moves home place live v outs) m → IsFrom v outs m
   in_live v [] m i = absurd i
-  in_live v (out ∷ outs) m i = either (cases_Bool (moves_now v out))
+  in_live v (out ∷ outs) m i = either (cases_Bool (moves_now v out)) (λ j. in_live (suc v) outs m j)
     where
-      first : moves_now v out ≡ true → ((m ≡ move_of home place v out) ⊎ In (live_moves home place live (suc v) outs) m) → IsFrom v (out ∷ outs) m
-      first e (inl j) = record { k = 0; w = v; on = omega arith; below = omega arith; moves = e; is = j }
-      first e (inr j) = later v out outs m (in_live (suc v) outs m j)
+      first : moves_now v out ≡ true → ((m ≡ move_of home place v out) ⊎ In (live_moves home place live (suc v) outs) m) → (In (live_moves home place live (suc v) outs) m → IsFrom (suc v) outs m) → IsFrom v (out ∷ outs) m
+      first e (inl j) more = record { k = 0; w = v; on = omega arith; below = omega arith; moves = e; is = j }
+      first e (inr j) more = later v out outs m (more j)
 
-      either : ((moves_now v out ≡ true) ⊎ (moves_now v out ≡ false)) → IsFrom v (out ∷ outs) m
-      either (inl e) = first e (subst (λ (b : Bool). In (cond b (move_of home place v out ∷ live_moves home place live (suc v) outs) (live_moves home place live (suc v) outs)) m) e i)
-      either (inr e) = later v out outs m (in_live (suc v) outs m (subst (λ (b : Bool). In (cond b (move_of home place v out ∷ live_moves home place live (suc v) outs) (live_moves home place live (suc v) outs)) m) e i))
+      either : ((moves_now v out ≡ true) ⊎ (moves_now v out ≡ false)) → (In (live_moves home place live (suc v) outs) m → IsFrom (suc v) outs m) → IsFrom v (out ∷ outs) m
+      either (inl e) more = first e (subst (λ (b : Bool). In (cond b (move_of home place v out ∷ live_moves home place live (suc v) outs) (live_moves home place live (suc v) outs)) m) e i) more
+      either (inr e) more = later v out outs m (more (subst (λ (b : Bool). In (cond b (move_of home place v out ∷ live_moves home place live (suc v) outs) (live_moves home place live (suc v) outs)) m) e i))
 
   live_in : (v k : ℕ) (outs : List Val) (w : ℕ) → w ≡ v + k → k < length outs → moves_now w (get_or outs k none) ≡ true → In (live_moves home place live v outs) (move_of home place w (get_or outs k none))
   live_in v k [] w on l e = absurd (omega arith)
@@ -122,7 +122,7 @@ module _ (home place : ℕ → Place) (live : ℕ → Bool) where
 
   module _ (apart : HomesApart home) where
     live_apart : (v : ℕ) (outs : List Val) → v + length outs ≤ REGISTERS → AreApart (live_moves home place live v outs)
-    live_apart v [] l i j d e lt m = absurd (omega arith)
+    live_apart v [] l = λ i j d e lt m. absurd (omega arith)
     live_apart v (out ∷ outs) l = either (moves_now v out) (live_apart (suc v) outs (omega arith))
       where
         differs : (x : PlaceMove) → In (live_moves home place live (suc v) outs) x → same_place (home v) x.to ≡ false
@@ -184,16 +184,16 @@ module _ (home place : ℕ → Place) (live : ℕ → Bool) where
 
       settled : (list : List PlaceMove) → ActAtOnce (live_moves home place live 0 outs) list → (a b : Cells) → Moved a (done list a.cell) b → Settled home place live outs a b
       settled list act a b m = record {
-        live = λ v l on. m.holds (home v) (laid.homes v l) ∙ taken v l on (cases_Bool (keeps_itself v (get_or outs v none)));
-        dead = λ v l off. m.holds (home v) (laid.homes v l) ∙ no_move list act a.cell v l (ap (λ (x : Bool). x && not (keeps_itself v (get_or outs v none))) off);
+        taken = λ v l on. m.holds (home v) (laid.homes v l) ∙ has v l on (cases_Bool (keeps_itself v (get_or outs v none)));
+        kept = λ v l off. m.holds (home v) (laid.homes v l) ∙ no_move list act a.cell v l (ap (λ (x : Bool). x && not (keeps_itself v (get_or outs v none))) off);
         others = λ q k off ns. m.holds q k ∙ stays list act a.cell q (λ v l on. off v l) ns;
         df = m.df;
         besides = m.besides;
       }
         where
-          taken : (v : ℕ) → v < REGISTERS → live v ≡ true → ((keeps_itself v (get_or outs v none) ≡ true) ⊎ (keeps_itself v (get_or outs v none) ≡ false)) → done list a.cell (home v) ≡ held a.cell (held_by home place (get_or outs v none))
-          taken v l on (inl e) = no_move list act a.cell v l (rw (on, e) refl) ∙ sym (ap (λ (x : Val). held a.cell (held_by home place x)) (itself_is v (get_or outs v none) e))
-          taken v l on (inr e) =
+          has : (v : ℕ) → v < REGISTERS → live v ≡ true → ((keeps_itself v (get_or outs v none) ≡ true) ⊎ (keeps_itself v (get_or outs v none) ≡ false)) → done list a.cell (home v) ≡ held a.cell (held_by home place (get_or outs v none))
+          has v l on (inl e) = no_move list act a.cell v l (rw (on, e) refl) ∙ sym (ap (λ (x : Val). held a.cell (held_by home place x)) (itself_is v (get_or outs v none) e))
+          has v l on (inr e) =
               let n = ho.count in
               all_in (λ m. done list a.cell m.to ≡ held a.cell m.from) (live_moves home place live 0 outs) (act.moved a.cell) (move_of home place v (get_or outs v none)) (live_in 0 v outs v (omega arith) (omega arith) (rw (on, e) refl))
 

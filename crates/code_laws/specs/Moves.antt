@@ -80,8 +80,8 @@ pub record MayBeGiven (ms : List PlaceMove) : Type 0 where
 
 -- Each live home holds the operand of its out, read before the moves, and each other home and place what it held.
 pub record Settled (home place : ℕ → Place) (live : ℕ → Bool) (outs : List Val) (a b : Cells) : Type 0 where
-  pub live : (v : ℕ) → v < REGISTERS → live v ≡ true → b.cell (home v) ≡ held a.cell (held_by home place (get_or outs v (val.Num 0)))
-  pub dead : (v : ℕ) → v < REGISTERS → live v ≡ false → b.cell (home v) ≡ a.cell (home v)
+  pub taken : (v : ℕ) → v < REGISTERS → live v ≡ true → b.cell (home v) ≡ held a.cell (held_by home place (get_or outs v (val.Num 0)))
+  pub kept : (v : ℕ) → v < REGISTERS → live v ≡ false → b.cell (home v) ≡ a.cell (home v)
   pub others : (q : Place) → IsKept q → ((v : ℕ) → v < REGISTERS → same_place (home v) q ≡ false) → same_place spare q ≡ false →
       b.cell q ≡ a.cell q
   pub df : b.df ≡ a.df
