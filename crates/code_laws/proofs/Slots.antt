@@ -4,7 +4,8 @@ use Rattle.std.proofs.lemmas.Bool.{ne_eqb}
 use Rattle.par_moves.specs.Locations.{same_place as place_eq}
 use Rattle.ssa_form.specs.declared.form.Line.{Line}
 use Rattle.ssa_form.specs.declared.form.Line.TheVariants.{Bin, One, Select, Load, Store, Gone}
-use Rattle.code_laws.specs.Placed.{IsSpare, Safe, slot_place, AreVals, SlotsServe}
+use Rattle.code_laws.specs.Placed.{IsSpare, Safe, slot_home, slot_place, AreVals, SlotsServe}
+use Rattle.code_laws.specs.Moves.{HomesApart}
 
 other : (i j : ℕ) → j ≢ i → place_eq (slot_place j) (slot_place i) ≡ false
 other i j n = ne_eqb (17 + j) (17 + i) (λ e. n (omega arith))
@@ -31,4 +32,10 @@ slots_serve = record {
     apart = λ v j l m. ne_eqb v (17 + j) (λ e. omega arith);
   };
   safe = safe;
+}
+
+pub slots_apart : HomesApart slot_home
+slots_apart = record {
+  each = λ u v lu lv n. ne_eqb u v n;
+  spare = λ v l. let n : v ≢ 16 = λ e. omega arith in ne_eqb v 16 n;
 }

@@ -159,7 +159,8 @@ pub record TemplateMeans (code : Region) (s : State) (a : Cells) (to : ℕ) (cs 
 
 -- The own bytes of a native instruction are read as it in every state.
 abbrev pub OwnFound : Type 0
-OwnFound = (code : Region) (dest : Dest → ℕ) (homes : Homes) (bytes : List ℕ) (label at : ℕ) (next : Dest) (to : ℕ) (i : Inst) (s : State) (a : Cells) →
+OwnFound = (code : Region) (dest : Dest → ℕ) (homes : Homes) (bytes : List ℕ) (label at : ℕ) (next : Dest) →
+    (to : ℕ) (i : Inst) (s : State) (a : Cells) →
     IsCode code → ((k : ℕ) → get_or bytes k 0 < 256) → 0 < length bytes → decode_of bytes ≡ Some (i, length bytes) →
     Stands dest code at (island_items homes bytes label next) to → Sees code s a → s.eip ≡ own_start homes label at →
     found s.eip s.regions ≡ There i (length bytes)
@@ -174,7 +175,16 @@ start_cell regs (Slot k) = 0
 abbrev pub StartSeen : Type 0
 StartSeen = (code : Region) (outer : List Region) (n : ℕ) (s : State) → n ≡ 65536 → s.regions ≡ code ∷ private_region (zeros n) ∷ outer →
     length s.cpu.regs ≡ 8 → ((r : ℕ) → r < 8 → get_or s.cpu.regs r 0 < 2 ^ 32) → s.stop ≡ Running →
-    Sees code s (record { cell = start_cell s.cpu.regs; flags = s.cpu.flags; marks = s.cpu.marks; df = s.cpu.df; outer = outer; seen = observed s; brk_start = s.brk_start; brk = s.brk })
+    Sees code s (record {
+      cell = start_cell s.cpu.regs;
+      flags = s.cpu.flags;
+      marks = s.cpu.marks;
+      df = s.cpu.df;
+      outer = outer;
+      seen = observed s;
+      brk_start = s.brk_start;
+      brk = s.brk;
+    })
 
 -- ---- jumps
 

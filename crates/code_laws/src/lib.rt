@@ -1,4 +1,5 @@
-//! Laws of recovered code: what its sequences and templates do in the machine's own runs.
+//! Laws of recovered code: what its sequences and templates do in the machine's own runs. Each is the contract of a call that does
+//! nothing, so that a proof above can cite it, and speaks of every list of choices and of every address at which the code stands.
 #![tactic(auto)]
 
 ghost use Rattle.std.specs.Prelude.{ℕ, Bool, List};
@@ -11,7 +12,7 @@ ghost use Rattle.code_laws.specs.Exchange.{Homes, FlagsHeld};
 ghost use Rattle.code_laws.specs.Laws.{ExchangeKeeps, TemplateMeans, OwnFound, IslandKeeps, StartSeen, JumpsLead, TestsMean};
 ghost use Rattle.par_moves.specs.declared.locations.Place.{Place};
 ghost use Rattle.code_laws.specs.Moves.{AreOuts, HomesApart, MayBeGiven, MovesHold, MovesSettle, live_moves};
-ghost use Rattle.code_laws.specs.Placed.{Laid, LinesHold, SlotsServe};
+ghost use Rattle.code_laws.specs.Placed.{Laid, LinesHold, SlotsServe, slot_home};
 ghost use Rattle.ssa_form.specs.declared.form.Val.{Val};
 ghost use Rattle.code_laws.specs.Valid.{CodeValid};
 
@@ -30,7 +31,8 @@ pub fn template_means()
 
 /// The code of a list of lines, each in its place, leaves the values of their fold, wherever it stands.
 pub fn lines_hold()
-    ensures { (code : Region) (limit : ℕ) (home place : ℕ → Place) (last : ℕ → Bool) → IsCode code → Laid limit home place → LinesHold code limit home place last }
+    ensures { (code : Region) (limit : ℕ) (home place : ℕ → Place) (last : ℕ → Bool) → IsCode code → Laid limit home place →
+        LinesHold code limit home place last }
 {
     run_model::memory_of_bytes();
 }
@@ -84,7 +86,8 @@ pub fn tests_mean()
     ensures { (code : Region) (s : State) (a : Cells) (to : ℕ) (cs : List ℕ) → IsCode code → Sees code s a → TestsMean code s a to cs }
 {}
 
-/// A slot for each parameter and each line serves every block.
+/// A slot for each parameter and each line serves every block, and the moves to another.
 pub fn slots_serve()
-    ensures { SlotsServe }
+    ensures lines { SlotsServe }
+    ensures moves { HomesApart slot_home }
 {}

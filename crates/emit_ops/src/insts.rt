@@ -11,6 +11,7 @@ use ia_inst::{Addr, Count, Inst, Rm, ShiftOp, Src, Width};
 use par_moves::{MoveSource, Place, operand, source};
 
 const EAX: Rm = Rm::Reg(0);
+
 const ECX: Rm = Rm::Reg(1);
 
 /// MOV of a value to a register.

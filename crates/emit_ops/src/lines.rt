@@ -7,7 +7,8 @@ ghost use Rattle.emit_ops.specs.Templates.{alu_code, shift_code, test_code, bin_
 ghost use Rattle.emit_ops.specs.Placed.{place_at, HasPlace, IsHeld, AreHeld};
 
 use crate::insts::{
-    choose, clear, extend_byte, extend_word, load, multiply, operate, read, set, shift, store, test_byte, test_word, write,
+    choose, clear, extend_byte, extend_word, load, multiply, operate, read, set, shift, store,
+    test_byte, test_word, write,
 };
 use ia_encode::{Item, Piece};
 use ia_inst::{ShiftOp, Width};
@@ -17,7 +18,13 @@ use ssa_form::{BinOp, Line, OneOp, Val};
 use std::alloc::AllocError;
 
 /// An operation on eax.
-fn emit_alu(p: &mut Piece, op: u8, a: MoveSource, b: MoveSource, to: Place) -> Result<(), AllocError>
+fn emit_alu(
+    p: &mut Piece,
+    op: u8,
+    a: MoveSource,
+    b: MoveSource,
+    to: Place,
+) -> Result<(), AllocError>
     requires op { op < 8 }
     requires a { IsFit a }
     requires b { IsFit b }
@@ -25,11 +32,21 @@ fn emit_alu(p: &mut Piece, op: u8, a: MoveSource, b: MoveSource, to: Place) -> R
     ensures ok { OnOk result (p.new ≡ p.old ++ map item.Inst (alu_code op a b to)) }
     ensures err { OnErr result (p.new ≡ p.old) }
 {
-    p.append(&[Item::Inst(load(0, a)), Item::Inst(operate(op, b)), Item::Inst(store(to, 0))])
+    p.append(&[
+        Item::Inst(load(0, a)),
+        Item::Inst(operate(op, b)),
+        Item::Inst(store(to, 0)),
+    ])
 }
 
 /// A shift of eax by cl.
-fn emit_shift(p: &mut Piece, op: ShiftOp, a: MoveSource, b: MoveSource, to: Place) -> Result<(), AllocError>
+fn emit_shift(
+    p: &mut Piece,
+    op: ShiftOp,
+    a: MoveSource,
+    b: MoveSource,
+    to: Place,
+) -> Result<(), AllocError>
     requires a { IsFit a }
     requires b { IsFit b }
     requires to { InRange to }
@@ -45,7 +62,13 @@ fn emit_shift(p: &mut Piece, op: ShiftOp, a: MoveSource, b: MoveSource, to: Plac
 }
 
 /// A comparison, with its condition as 0 or 1.
-fn emit_test(p: &mut Piece, cond: u8, a: MoveSource, b: MoveSource, to: Place) -> Result<(), AllocError>
+fn emit_test(
+    p: &mut Piece,
+    cond: u8,
+    a: MoveSource,
+    b: MoveSource,
+    to: Place,
+) -> Result<(), AllocError>
     requires cond { cond < 16 }
     requires a { IsFit a }
     requires b { IsFit b }
@@ -63,7 +86,13 @@ fn emit_test(p: &mut Piece, cond: u8, a: MoveSource, b: MoveSource, to: Place) -
 }
 
 /// An operator of two.
-fn emit_bin(p: &mut Piece, op: BinOp, a: MoveSource, b: MoveSource, to: Place) -> Result<(), AllocError>
+fn emit_bin(
+    p: &mut Piece,
+    op: BinOp,
+    a: MoveSource,
+    b: MoveSource,
+    to: Place,
+) -> Result<(), AllocError>
     requires a { IsFit a }
     requires b { IsFit b }
     requires to { InRange to }
@@ -113,13 +142,27 @@ fn emit_one(p: &mut Piece, op: OneOp, a: MoveSource, to: Place) -> Result<(), Al
             Item::Inst(set(10)),
             Item::Inst(store(to, 0)),
         ]),
-        OneOp::Sext8 => p.append(&[Item::Inst(load(0, a)), Item::Inst(extend_byte()), Item::Inst(store(to, 0))]),
-        OneOp::Sext16 => p.append(&[Item::Inst(load(0, a)), Item::Inst(extend_word()), Item::Inst(store(to, 0))]),
+        OneOp::Sext8 => p.append(&[
+            Item::Inst(load(0, a)),
+            Item::Inst(extend_byte()),
+            Item::Inst(store(to, 0)),
+        ]),
+        OneOp::Sext16 => p.append(&[
+            Item::Inst(load(0, a)),
+            Item::Inst(extend_word()),
+            Item::Inst(store(to, 0)),
+        ]),
     }
 }
 
 /// A choice of two.
-fn emit_select(p: &mut Piece, c: MoveSource, a: MoveSource, b: MoveSource, to: Place) -> Result<(), AllocError>
+fn emit_select(
+    p: &mut Piece,
+    c: MoveSource,
+    a: MoveSource,
+    b: MoveSource,
+    to: Place,
+) -> Result<(), AllocError>
     requires c { IsFit c }
     requires a { IsFit a }
     requires b { IsFit b }
@@ -144,7 +187,11 @@ fn emit_load(p: &mut Piece, w: Width, at: MoveSource, to: Place) -> Result<(), A
     ensures ok { OnOk result (p.new ≡ p.old ++ map item.Inst (load_code w at to)) }
     ensures err { OnErr result (p.new ≡ p.old) }
 {
-    p.append(&[Item::Inst(load(0, at)), Item::Inst(read(w)), Item::Inst(store(to, 0))])
+    p.append(&[
+        Item::Inst(load(0, at)),
+        Item::Inst(read(w)),
+        Item::Inst(store(to, 0)),
+    ])
 }
 
 /// A write of memory.
@@ -154,7 +201,11 @@ fn emit_store(p: &mut Piece, w: Width, at: MoveSource, a: MoveSource) -> Result<
     ensures ok { OnOk result (p.new ≡ p.old ++ map item.Inst (store_code w at a)) }
     ensures err { OnErr result (p.new ≡ p.old) }
 {
-    p.append(&[Item::Inst(load(0, at)), Item::Inst(load(1, a)), Item::Inst(write(w))])
+    p.append(&[
+        Item::Inst(load(0, at)),
+        Item::Inst(load(1, a)),
+        Item::Inst(write(w)),
+    ])
 }
 
 /// The place of a line.
@@ -186,13 +237,24 @@ fn held(places: &[Option<Place>], value: Val) -> MoveSource
 /// places, and its result goes to the place of the line, whose index is `at`. A line that was taken away has no code.
 ///
 /// An error comes for want of memory, and then the piece is as before.
-pub fn emit_line(p: &mut Piece, line: &Line, at: u32, places: &[Option<Place>]) -> Result<(), AllocError>
+pub fn emit_line(
+    p: &mut Piece,
+    line: &Line,
+    at: u32,
+    places: &[Option<Place>],
+) -> Result<(), AllocError>
     requires { AreHeld places.now at line.now }
     ensures ok { OnOk result (p.new ≡ p.old ++ map item.Inst (line_code home_of (place_at places.now) at line.now)) }
     ensures err { OnErr result (p.new ≡ p.old) }
 {
     match *line {
-        Line::Bin { op, a, b } => emit_bin(p, op, held(places, a), held(places, b), place_of(places, at)),
+        Line::Bin { op, a, b } => emit_bin(
+            p,
+            op,
+            held(places, a),
+            held(places, b),
+            place_of(places, at),
+        ),
         Line::One { op, a } => emit_one(p, op, held(places, a), place_of(places, at)),
         Line::Select { c, a, b } => emit_select(
             p,
@@ -201,8 +263,18 @@ pub fn emit_line(p: &mut Piece, line: &Line, at: u32, places: &[Option<Place>]) 
             held(places, b),
             place_of(places, at),
         ),
-        Line::Load { w, at: address } => emit_load(p, w, held(places, address), place_of(places, at)),
-        Line::Store { w, at: address, a } => emit_store(p, w, held(places, address), held(places, a)),
+        Line::Load { w, at: address } => emit_load(
+            p,
+            w,
+            held(places, address),
+            place_of(places, at),
+        ),
+        Line::Store { w, at: address, a } => emit_store(
+            p,
+            w,
+            held(places, address),
+            held(places, a),
+        ),
         Line::Gone => Ok(()),
     }
 }

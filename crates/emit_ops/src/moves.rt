@@ -21,7 +21,9 @@ pub fn emit_move(p: &mut Piece, m: &PlaceMove) -> Result<(), AllocError>
     match (m.to, m.from) {
         (Place::Reg(register), from) => p.append(&[Item::Inst(load(register, from))]),
         (to, MoveSource::Num(number)) => p.append(&[Item::Inst(store_number(to, number))]),
-        (to, MoveSource::Place(Place::Reg(register))) => p.append(&[Item::Inst(store(to, register))]),
+        (to, MoveSource::Place(Place::Reg(register))) => p.append(&[Item::Inst(store(
+            to, register,
+        ))]),
         (to, from) => p.append(&[Item::Inst(load(0, from)), Item::Inst(store(to, 0))]),
     }
 }

@@ -26,7 +26,13 @@ fn orders_moves(rt: HostRuntime) {
     assert!(rt; is_order(&rt, &swap, &[slot(16, 0), slot(0, 1), slot(1, 16)]));
     // So does a cycle of three.
     let cycle = [slot(0, 1), slot(1, 2), slot(2, 0)];
-    assert!(rt; is_order(&rt, &cycle, &[slot(16, 0), slot(0, 1), slot(1, 2), slot(2, 16)]));
+    assert!(rt;
+        is_order(
+            &rt,
+            &cycle,
+            &[slot(16, 0), slot(0, 1), slot(1, 2), slot(2, 16)]
+        )
+    );
     // Of a chain the last place is read first.
     let chain = [slot(1, 0), slot(2, 1), slot(3, 2)];
     assert!(rt; is_order(&rt, &chain, &[slot(3, 2), slot(2, 1), slot(1, 0)]));
