@@ -1,1 +1,2 @@
 pub mod PlacesFrom
+pub mod NoNames
