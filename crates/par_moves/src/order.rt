@@ -95,7 +95,9 @@ fn turn(
     out: &mut Vec<PlaceMove>,
 ) -> Result<Vec<PlaceMove>, AllocError>
     requires some { 0 < length pending.now }
-    ensures { (m : PlaceMove) (ms : List PlaceMove) → pending.now ≡ m ∷ ms → IfOk result (λ v. (v.items ≡ (turn_of m ms (find (is_ready pending.now) pending.now)).left) × (out.new.items ≡ out.old.items ++ (turn_of m ms (find (is_ready pending.now) pending.now)).done)) }
+    ensures { (m : PlaceMove) (ms : List PlaceMove) → pending.now ≡ m ∷ ms →
+        IfOk result (λ v. (v.items ≡ (turn_of m ms (find (is_ready pending.now) pending.now)).left)
+        × (out.new.items ≡ out.old.items ++ (turn_of m ms (find (is_ready pending.now) pending.now)).done)) }
 {
     match first_ready(pending) {
         Some(m) => {

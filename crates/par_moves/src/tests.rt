@@ -1,6 +1,6 @@
 //! Orders of moves, worked out by hand.
-use crate::{MoveSource, Place, PlaceMove, sequence};
-use std::process::HostRuntime;
+use crate::{MoveSource, Place, PlaceMove, operand, register_homes, sequence, source};
+use ia_inst::{Addr, Rm, Src};
 use std::test::Fail;
 
 fn slot(to: u32, from: u32) -> PlaceMove {
@@ -10,13 +10,61 @@ fn slot(to: u32, from: u32) -> PlaceMove {
     }
 }
 
+/// Whether these moves are done in this order.
+fn is_order(rt: &HostRuntime, moves: &[PlaceMove], order: &[PlaceMove]) -> bool {
+    match sequence(rt.alloc(), moves) {
+        Ok(done) => done.as_slice() == order,
+        Err(_) => false,
+    }
+}
+
 #[test]
-fn orders_moves(rt: HostRuntime) -> Result<(), Fail> {
-    let alloc = rt.alloc();
-    let none = sequence(alloc, &[]).expect(&rt, "memory");
-    assert_eq!(rt; none.len(), 0);
+fn orders_moves(rt: HostRuntime) {
+    assert!(rt; is_order(&rt, &[], &[]));
     // A swap goes through the spare.
-    let swap = sequence(alloc, &[slot(0, 1), slot(1, 0)]).expect(&rt, "memory");
-    assert_eq!(rt; swap.as_slice(), &[slot(16, 0), slot(0, 1), slot(1, 16)]);
-    Ok(())
+    let swap = [slot(0, 1), slot(1, 0)];
+    assert!(rt; is_order(&rt, &swap, &[slot(16, 0), slot(0, 1), slot(1, 16)]));
+    // So does a cycle of three.
+    let cycle = [slot(0, 1), slot(1, 2), slot(2, 0)];
+    assert!(rt;
+        is_order(
+            &rt,
+            &cycle,
+            &[slot(16, 0), slot(0, 1), slot(1, 2), slot(2, 16)]
+        )
+    );
+    // Of a chain the last place is read first.
+    let chain = [slot(1, 0), slot(2, 1), slot(3, 2)];
+    assert!(rt; is_order(&rt, &chain, &[slot(3, 2), slot(2, 1), slot(1, 0)]));
+    // Two moves from one source stay in order.
+    let twice = [slot(1, 0), slot(2, 0)];
+    assert!(rt; is_order(&rt, &twice, &[slot(1, 0), slot(2, 0)]));
+}
+
+#[test]
+fn moves_registers_and_numbers(rt: HostRuntime) {
+    let to_register = PlaceMove {
+        to: Place::Reg(3),
+        from: MoveSource::Place(Place::Slot(0)),
+    };
+    let number = PlaceMove {
+        to: Place::Slot(0),
+        from: MoveSource::Num(7),
+    };
+    // The number waits until the slot was read.
+    assert!(rt; is_order(&rt, &[number, to_register], &[to_register, number]));
+}
+
+#[test]
+fn slots_are_words_of_the_private_segment(rt: HostRuntime) {
+    let word = Rm::Mem(Addr {
+        base: None,
+        index: None,
+        disp: 0x0700_0040,
+    });
+    assert!(rt; operand(Place::Slot(16)) == word);
+    assert!(rt; source(MoveSource::Place(Place::Slot(16))) == Src::Rm(word));
+    assert!(rt; source(MoveSource::Num(5)) == Src::Imm(5));
+    assert!(rt; operand(Place::Reg(3)) == Rm::Reg(3));
+    assert!(rt; register_homes().is_empty());
 }

@@ -1,6 +1,7 @@
 //! Blocks in single assignment form: names of values, operators, lines and exits.
 
 use crate::lines::Lines;
+use crate::lists::{KnownExits, Marks};
 use br_word::Width;
 
 /// How many virtual registers a block has: 0 to 7 are eax, ecx, edx, ebx, esp, ebp, esi and edi, then come
@@ -149,14 +150,14 @@ pub struct BlockKey {
     pub start: u32,
     /// The known exits in ascending order, each with the set of virtual registers that are live there: bit v
     /// of it is virtual register v.
-    pub exits: Vec<(u32, u16)>,
+    pub exits: KnownExits,
 }
 
 /// The two parts of a block's lines, each as one truth value for each line.
 #[derive(Drop)]
 pub struct Split {
     /// The lines that are done on every way out.
-    pub body: Vec<bool>,
+    pub body: Marks,
     /// The lines that are done only where the block is left by a side exit.
-    pub sunk: Vec<bool>,
+    pub sunk: Marks,
 }

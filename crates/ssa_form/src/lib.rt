@@ -6,6 +6,7 @@
 mod check;
 mod form;
 mod lines;
+mod lists;
 #[cfg(test)]
 mod tests;
 
@@ -13,3 +14,4 @@ pub use br_word::Width;
 pub use check::check_block;
 pub use form::{BinOp, Block, BlockKey, Exit, Line, OneOp, REGISTERS, Split, Val};
 pub use lines::Lines;
+pub use lists::{KnownExits, Marks};

@@ -1,0 +1,17 @@
+pub mod Words
+pub mod Ops
+pub mod Memory
+pub mod Follows
+pub mod Runs
+pub mod Exchange
+pub mod Keeps
+pub mod Gives
+pub mod Means
+pub mod Hold
+pub mod Own
+pub mod Start
+pub mod Moves
+pub mod Settle
+pub mod Valid
+pub mod Tests
+pub mod Slots

@@ -1,0 +1,2 @@
+pub mod PlacesFrom
+pub mod NoNames
