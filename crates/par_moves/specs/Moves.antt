@@ -58,10 +58,5 @@ pub record ActAtOnce (moves list : List PlaceMove) : Type 0 where
 
 -- distinct destinations, and none of them the spare
 abbrev pub AreApart : List PlaceMove → Type 0
-<<<<<<< HEAD
 AreApart moves = (i j : ℕ) (d e : PlaceMove) → i < j → j < length moves
     → same_place (slice_index_or moves i d).to (slice_index_or moves j e).to ≡ false
-=======
-AreApart moves = (i j : ℕ) (d e : PlaceMove) → i < j → j < length moves →
-    same_place (slice_index_or moves i d).to (slice_index_or moves j e).to ≡ false
->>>>>>> 957134c8eb8326afce883096a16addd0a589cbf2
