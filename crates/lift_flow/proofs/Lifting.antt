@@ -1,12 +1,11 @@
 -- The instructions of a block are lifted one behind the other.
 use Rattle.std.proofs.Common.{◌≡◌, ◌≢◌, ℕ, zero, suc, ◌+◌, ◌<◌, ◌≤◌, List, [], ◌∷◌, length, drop, get_or, Option, Some, None, refl, sym, ap, ◌∙◌, subst, add-one, arith}
-use Rattle.std.specs.Prelude.{sum_by}
 use Rattle.std.proofs.Math.Seq.{drop-cons}
 use Rattle.std.proofs.lemmas.List.Sums.{sum_by-cons}
 use Rattle.elf_read.specs.declared.exe.Exe.{Exe}
 use Rattle.ia_inst.specs.declared.inst.Inst.{Inst}
 use Rattle.ia_inst.specs.declared.inst.Inst.TheVariants.{Nop}
-use Rattle.ia_inst.specs.Step.{Found, There}
+use Rattle.ia_inst.specs.Step.{There}
 use Rattle.block_cut.specs.declared.ends.End.{End}
 use Rattle.block_cut.specs.declared.ends.End.TheVariants.{Transfer, Island, BeforeIsland, Unreadable, Full}
 use Rattle.block_cut.specs.Places.{Placed, found_at, inst_found}

@@ -1,5 +1,5 @@
 -- An instruction that is not native makes no system call.
-use Rattle.std.proofs.Common.{◌≡◌, ℕ, ◌+◌, Bool, true, false, List, Option, Some, None, subst}
+use Rattle.std.proofs.Common.{◌≡◌, ℕ, ◌+◌, Bool, List, Option, Some, None, subst}
 use Rattle.std.specs.Prelude.{set, ◌==◌, if◌then◌else◌}
 use Rattle.br_word.specs.declared.types.Width.{Width}
 use Rattle.br_word.specs.declared.types.Width.TheVariants.{B8, B32}

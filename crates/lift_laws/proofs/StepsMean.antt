@@ -17,16 +17,14 @@ use Rattle.ia_inst.specs.Instructions.{decode_of}
 use Rattle.ia_inst.specs.Kinds.{kind_of, flags_read}
 use Rattle.ia_inst.specs.Fits.{AsksExactly}
 use Rattle.ia_inst.specs.Act.{NextEip, Completion, Next, Denied, Divided, Called, perform}
-use Rattle.ia_inst.specs.Meaning.{wrap, meaning}
-use Rattle.ia_inst.specs.Step.{Found, There, found, found_from, found_in, act_of, next_eip, result_of, result_at, step_result, settled, unless_stopped, step, NoFault, AllMarked, asked_at, IsWellDefined}
-use Rattle.ia_inst.specs.System.{StepResult, On, Bad, system}
+use Rattle.ia_inst.specs.Meaning.{meaning}
+use Rattle.ia_inst.specs.Step.{There, found, found_from, found_in, next_eip, result_of, result_at, step_result, settled, unless_stopped, step, NoFault, AllMarked, asked_at, IsWellDefined}
 use Rattle.block_cut.specs.declared.ends.End.{End}
 use Rattle.block_cut.specs.declared.ends.End.TheVariants.{Transfer, Island, BeforeIsland, Unreadable, Full}
 use Rattle.block_cut.specs.Places.{Placed, found_at}
 use Rattle.block_cut.specs.Blocks.{StandFrom, ArePlain, EndWith, EndsSo, IsBlock, block_of, size_of, EachHasOneBlock}
 use Rattle.run_model.specs.Run.{observed, run, WellDefined}
 use Rattle.sim_laws.specs.ByKind.{IsQuiet}
-use Rattle.run_model.specs.Sound.{IsSound}
 use Rattle.sim_laws.specs.InCode.{IsStateOf}
 use Rattle.sim_laws.specs.Through.{Comes, RunsThrough}
 use Rattle.ssa_form.specs.declared.form.Line.{Line}
@@ -34,11 +32,11 @@ use Rattle.ssa_form.specs.declared.form.Block.{Block}
 use Rattle.ssa_form.specs.Value.{Env, fold, AllAllowed, numbered, outs_of, exit_of}
 use Rattle.ssa_form.specs.Agree.{AgreesOn, AreBits, every, number}
 use Rattle.ssa_form.specs.Checked.{checked}
-use Rattle.ssa_form.specs.Same.{start_env, end_env, rows}
+use Rattle.ssa_form.specs.Same.{start_env, end_env}
 use Rattle.lift_alu.specs.Lifted.{lifted}
-use Rattle.lift_alu.specs.Means.{IsLifted, Reaches, LinesMean, EachMeans, EachStaysChecked}
+use Rattle.lift_alu.specs.Means.{IsLifted, Reaches, EachMeans, EachStaysChecked}
 use Rattle.lift_flow.specs.LiftedBlock.{params, blank, lifted_all, lifted_to, lift_of}
-use Rattle.lift_laws.specs.BlockMeans.{Gives, BlockMeans}
+use Rattle.lift_laws.specs.BlockMeans.{Gives}
 use Rattle.lift_laws.proofs.NeverCalls.{no_call}
 use Rattle.lift_laws.proofs.Appended.{fold_behind, allowed_behind}
 

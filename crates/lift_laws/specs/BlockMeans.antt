@@ -10,7 +10,7 @@ use Rattle.run_model.specs.Run.{run, WellDefined}
 use Rattle.sim_laws.specs.ByKind.{IsQuiet}
 use Rattle.sim_laws.specs.InCode.{IsStateOf}
 use Rattle.ssa_form.specs.declared.form.Block.{Block}
-use Rattle.ssa_form.specs.Value.{Env, outs_of, exit_of}
+use Rattle.ssa_form.specs.Value.{outs_of, exit_of}
 use Rattle.ssa_form.specs.Agree.{AgreesOn, AreBits, every}
 use Rattle.ssa_form.specs.Same.{end_env, IsAllowedAt}
 use Rattle.lift_flow.specs.LiftedBlock.{lift_of}
