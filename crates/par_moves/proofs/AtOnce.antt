@@ -23,7 +23,7 @@ same_true (Slot a) (Slot b) e = ap Slot (eqb-true a b e)
 same_true (Reg a) (Slot b) e = cc
 same_true (Slot a) (Reg b) e = cc
 
-differ_sym : (p q : Place) → same_place p q ≡ false → same_place q p ≡ false
+pub differ_sym : (p q : Place) → same_place p q ≡ false → same_place q p ≡ false
 differ_sym p q e = elim (cases_Bool (same_place q p)) as (λ _. same_place q p ≡ false) [
   | inl t ↦ absurd (both_ways (same_place p q) e (ap (same_place p) (same_true q p t) ∙ same_refl p))
   | inr f ↦ f

@@ -1,9 +1,18 @@
 //! Orders of moves, worked out by hand.
+ghost use Rattle.std.specs.Prelude.{◌≡◌, false, All};
+ghost use Rattle.par_moves.specs.declared.locations.Place.TheVariants.{Slot};
+ghost use Rattle.par_moves.specs.declared.locations.MoveSource.TheVariants.{Place as Of};
+ghost use Rattle.par_moves.specs.Locations.{same_place, spare};
+ghost use Rattle.par_moves.specs.Moves.{AreApart};
+
 use crate::{MoveSource, Place, PlaceMove, operand, register_homes, sequence, source};
 use ia_inst::{Addr, Rm, Src};
 use std::test::Fail;
 
-fn slot(to: u32, from: u32) -> PlaceMove {
+/// A move from slot to slot.
+fn slot(to: u32, from: u32) -> PlaceMove
+    ensures { result ≡ record { to = Slot to; from = Of (Slot from) } }
+{
     PlaceMove {
         to: Place::Slot(to),
         from: MoveSource::Place(Place::Slot(from)),
@@ -11,7 +20,10 @@ fn slot(to: u32, from: u32) -> PlaceMove {
 }
 
 /// Whether these moves are done in this order.
-fn is_order(rt: &HostRuntime, moves: &[PlaceMove], order: &[PlaceMove]) -> bool {
+fn is_order(rt: &HostRuntime, moves: &[PlaceMove], order: &[PlaceMove]) -> bool
+    requires apart { AreApart moves.now }
+    requires to_spare { All (λ m. same_place m.to spare ≡ false) moves.now }
+{
     match sequence(rt.alloc(), moves) {
         Ok(done) => done.as_slice() == order,
         Err(_) => false,
@@ -19,6 +31,7 @@ fn is_order(rt: &HostRuntime, moves: &[PlaceMove], order: &[PlaceMove]) -> bool 
 }
 
 #[test]
+#[tactic(auto, using(crate::proofs::Distinct::apart_of, crate::proofs::Distinct::spare_of))]
 fn orders_moves(rt: HostRuntime) {
     assert!(rt; is_order(&rt, &[], &[]));
     // A swap goes through the spare.
@@ -42,6 +55,7 @@ fn orders_moves(rt: HostRuntime) {
 }
 
 #[test]
+#[tactic(auto, using(crate::proofs::Distinct::apart_of, crate::proofs::Distinct::spare_of))]
 fn moves_registers_and_numbers(rt: HostRuntime) {
     let to_register = PlaceMove {
         to: Place::Reg(3),

@@ -1,2 +1,1 @@
 pub mod PlacesFrom
-pub mod NoNames
