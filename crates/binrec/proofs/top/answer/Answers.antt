@@ -22,17 +22,17 @@ show_command-requires g c =
     let few : length (map string_bytes c.in-Show.traces.now) ≤ 4096 = fits_as _ _ c.in-Show.is c.requires.fitting in
     omega (arith, few, length-map c.in-Show.traces.now string_bytes)
 
-pub run_command-requires-clause-fit : goal.run_command-requires-clause-fit
-run_command-requires-clause-fit g c = let fits : Fits c.in-Run.steps (map string_bytes c.in-Run.args.now) = fits_as _ _ c.in-Run.is c.requires.fitting in fits.fit
+pub run_command-end-requires-clause-fit : goal.run_command-end-requires-clause-fit
+run_command-end-requires-clause-fit g c = let fits : Fits c.in-Run.steps (map string_bytes c.in-Run.args.now) = fits_as _ _ c.in-Run.is c.requires.fitting in fits.fit
 
-pub run_command-requires-clause-few : goal.run_command-requires-clause-few
-run_command-requires-clause-few g c = let fits : Fits c.in-Run.steps (map string_bytes c.in-Run.args.now) = fits_as _ _ c.in-Run.is c.requires.fitting in fits.few
+pub run_command-end-requires-clause-few : goal.run_command-end-requires-clause-few
+run_command-end-requires-clause-few g c = let fits : Fits c.in-Run.steps (map string_bytes c.in-Run.args.now) = fits_as _ _ c.in-Run.is c.requires.fitting in fits.few
 
-pub trace_command-requires-clause-fit : goal.trace_command-requires-clause-fit
-trace_command-requires-clause-fit g c = let fits : Fits c.in-Trace.steps (map string_bytes c.in-Trace.args.now) = fits_as _ _ c.in-Trace.is c.requires.fitting in fits.fit
+pub trace_command-end-requires-clause-fit : goal.trace_command-end-requires-clause-fit
+trace_command-end-requires-clause-fit g c = let fits : Fits c.in-Trace.steps (map string_bytes c.in-Trace.args.now) = fits_as _ _ c.in-Trace.is c.requires.fitting in fits.fit
 
-pub trace_command-requires-clause-few : goal.trace_command-requires-clause-few
-trace_command-requires-clause-few g c = let fits : Fits c.in-Trace.steps (map string_bytes c.in-Trace.args.now) = fits_as _ _ c.in-Trace.is c.requires.fitting in fits.few
+pub trace_command-end-requires-clause-few : goal.trace_command-end-requires-clause-few
+trace_command-end-requires-clause-few g c = let fits : Fits c.in-Trace.steps (map string_bytes c.in-Trace.args.now) = fits_as _ _ c.in-Trace.is c.requires.fitting in fits.few
 
 pub returns-in-Build : goal.returns-in-Build
 returns-in-Build g c =
@@ -61,15 +61,15 @@ returns-in-Show g c =
 pub returns-in-Run : goal.returns-in-Run
 returns-in-Run g c =
     let s = world (g.F.Shelf.seen c.args.shelf.now) (g.I.Source.seen c.args.input.now) (g.O.Sink.seen c.args.out.now) (g.R.Sink.seen c.args.report.now) in
-    let m = world (g.F.Shelf.seen c.run_command.new.shelf) (g.I.Source.seen c.run_command.new.input) (g.O.Sink.seen c.run_command.new.out) (g.R.Sink.seen c.run_command.new.report) in
-    let t = world (g.F.Shelf.seen c.run_command.new.shelf) (g.I.Source.seen c.run_command.new.input) (g.O.Sink.seen c.run_command.new.out) (g.R.Sink.seen c.tell_end-in-Run.new.report) in
-    let h : Happened (run_plan c.in-Run.steps c.in-Run.e.now (map string_bytes c.in-Run.args.now) c.args.first) s c.tell_end-in-Run.result t = (end_of c.run_command.result, m, c.run_command.ensures, (_, c.tell_end-in-Run.ensures, refl)) in
+    let m = world (g.F.Shelf.seen c.run_command-end.new.shelf) (g.I.Source.seen c.run_command-end.new.input) (g.O.Sink.seen c.run_command-end.new.out) (g.R.Sink.seen c.run_command-end.new.report) in
+    let t = world (g.F.Shelf.seen c.run_command-end.new.shelf) (g.I.Source.seen c.run_command-end.new.input) (g.O.Sink.seen c.run_command-end.new.out) (g.R.Sink.seen c.tell_end-in-Run.new.report) in
+    let h : Happened (run_plan c.in-Run.steps c.in-Run.e.now (map string_bytes c.in-Run.args.now) c.args.first) s c.tell_end-in-Run.result t = (end_of c.run_command-end.result, m, c.run_command-end.ensures, (_, c.tell_end-in-Run.ensures, refl)) in
     answers_as _ _ c.args.first s _ t c.in-Run.is h
 
 pub returns-in-Trace : goal.returns-in-Trace
 returns-in-Trace g c =
     let s = world (g.F.Shelf.seen c.args.shelf.now) (g.I.Source.seen c.args.input.now) (g.O.Sink.seen c.args.out.now) (g.R.Sink.seen c.args.report.now) in
-    let m = world (g.F.Shelf.seen c.trace_command.new.shelf) (g.I.Source.seen c.trace_command.new.input) (g.O.Sink.seen c.trace_command.new.out) (g.R.Sink.seen c.trace_command.new.report) in
-    let t = world (g.F.Shelf.seen c.trace_command.new.shelf) (g.I.Source.seen c.trace_command.new.input) (g.O.Sink.seen c.trace_command.new.out) (g.R.Sink.seen c.tell_end-in-Trace.new.report) in
-    let h : Happened (trace_plan c.in-Trace.steps c.in-Trace.t.now c.in-Trace.e.now (map string_bytes c.in-Trace.args.now) (c.args.first + 1)) s c.tell_end-in-Trace.result t = (end_of c.trace_command.result, m, c.trace_command.ensures, (_, c.tell_end-in-Trace.ensures, refl)) in
+    let m = world (g.F.Shelf.seen c.trace_command-end.new.shelf) (g.I.Source.seen c.trace_command-end.new.input) (g.O.Sink.seen c.trace_command-end.new.out) (g.R.Sink.seen c.trace_command-end.new.report) in
+    let t = world (g.F.Shelf.seen c.trace_command-end.new.shelf) (g.I.Source.seen c.trace_command-end.new.input) (g.O.Sink.seen c.trace_command-end.new.out) (g.R.Sink.seen c.tell_end-in-Trace.new.report) in
+    let h : Happened (trace_plan c.in-Trace.steps c.in-Trace.t.now c.in-Trace.e.now (map string_bytes c.in-Trace.args.now) (c.args.first + 1)) s c.tell_end-in-Trace.result t = (end_of c.trace_command-end.result, m, c.trace_command-end.ensures, (_, c.tell_end-in-Trace.ensures, refl)) in
     answers_as _ _ c.args.first s _ t c.in-Trace.is h
