@@ -15,7 +15,7 @@ use Rattle.ssa_form.specs.declared.form.Val.{Val}
 use Rattle.ssa_form.specs.declared.form.Val.TheVariants.{Param, Line as Named}
 use Rattle.ssa_form.specs.declared.form.Line.{Line}
 use Rattle.ssa_form.specs.declared.form.Line.TheVariants.{Bin, One, Select, Load, Store, Gone}
-use Rattle.ssa_form.specs.Value.{Env, value, with_line as name, loaded, stored, line_next, fold, IsAllowed, AllAllowed, bin_value, one_value, select_value}
+use Rattle.ssa_form.specs.Value.{Env, value, with_line as name, loaded, stored, line_next, fold, IsAllowed, bin_value, one_value, select_value}
 use Rattle.run_model.specs.Sound.{LoadsFit, StoresBytes}
 use Rattle.emit_ops.specs.Templates.{held_by, line_code}
 use Rattle.ia_encode.specs.Items.{StandsAt}

@@ -1,22 +1,19 @@
 -- Moves on the way to another block.
-use Rattle.std.proofs.Common.{◌≡◌, ◌≢◌, ℕ, zero, suc, ◌+◌, ◌<◌, ◌≤◌, Bool, true, false, cond, not, ◌&&◌, ◌==◌, List, [], ◌∷◌, ◌++◌, length, map, get_or, Option, Some, None, refl, sym, ap, ◌∙◌, subst, arith, ◌⊎◌, inl, inr, ⊎_elim}
-use Rattle.std.specs.Prelude.{All, find, filter}
-use Rattle.std.proofs.lemmas.Bool.{cases_Bool, cases_eq, eqb-true, true≢false, both_ways, and_parts, not-true}
+use Rattle.std.proofs.Common.{◌≡◌, ◌≢◌, ℕ, zero, suc, ◌+◌, ◌<◌, ◌≤◌, Bool, true, false, cond, not, ◌&&◌, List, [], ◌∷◌, ◌++◌, length, map, get_or, Option, Some, None, refl, sym, ap, ◌∙◌, subst, arith, ◌⊎◌, inl, inr, ⊎_elim}
+use Rattle.std.specs.Prelude.{All, find}
+use Rattle.std.proofs.lemmas.Bool.{cases_Bool, cases_eq, eqb-true, true≢false, both_ways}
 use Rattle.br_word.specs.Memory.{Region}
-use Rattle.br_word.specs.State.{State}
 use Rattle.ssa_form.specs.declared.form.TheConstants.{REGISTERS}
 use Rattle.ssa_form.specs.declared.form.Val.{Val}
 use Rattle.ssa_form.specs.declared.form.Val.TheVariants as val
 use Rattle.par_moves.specs.declared.locations.Place.{Place}
-use Rattle.par_moves.specs.declared.locations.Place.TheVariants.{Reg, Slot}
-use Rattle.par_moves.specs.declared.locations.MoveSource.{MoveSource as Source}
-use Rattle.par_moves.specs.declared.locations.MoveSource.TheVariants.{Place as Held, Num}
+use Rattle.par_moves.specs.declared.locations.MoveSource.TheVariants.{Place as Held}
 use Rattle.par_moves.specs.declared.locations.PlaceMove.{PlaceMove}
-use Rattle.par_moves.specs.Locations.{same_place, spare, is_from, held, InRange, IsFit, IsKept, IsFree}
+use Rattle.par_moves.specs.Locations.{same_place, spare, is_from, held}
 use Rattle.par_moves.specs.Moves.{is_ready, others, redirect, turn_of, sequenced, done, ActAtOnce, AreApart}
 use Rattle.par_moves.proofs.Membership.{In, found, filter_in, map_in, at_index, index_of}
 use Rattle.emit_ops.specs.Templates.{held_by}
-use Rattle.code_laws.specs.Seen.{Cells, IsCode, Sees, Leads, Quiet}
+use Rattle.code_laws.specs.Seen.{Cells, IsCode}
 use Rattle.code_laws.specs.Laws.{Comes, IsOperand, IsResult}
 use Rattle.code_laws.specs.Placed.{IsVal, Laid}
 use Rattle.code_laws.specs.Moves.{moves_code, AllServe, Moved, keeps_itself, move_of, live_moves, in_order, HomesApart, AreOuts, MayBeGiven, Settled, MovesSettle}

@@ -1,5 +1,5 @@
 -- The laws of recovered code, over the machine's own steps, for every list of choices.
-use Rattle.std.specs.Prelude.{◌≡◌, ℕ, ◌+◌, ◌^◌, ◌<◌, ◌≤◌, ◌⊎◌, false, List, [], ◌∷◌, ◌++◌, map, length, get_or, nat_eq, Bool, Option, None, Some, if◌then◌else◌}
+use Rattle.std.specs.Prelude.{◌≡◌, ℕ, ◌+◌, ◌^◌, ◌<◌, ◌≤◌, ◌⊎◌, false, List, [], ◌∷◌, length, get_or, nat_eq, Bool, Option, None, Some, if◌then◌else◌}
 use Rattle.br_word.specs.declared.types.Width.{Width}
 use Rattle.br_word.specs.Memory.{Region, zeros, load, store}
 use Rattle.br_word.specs.Words.{size_of}
@@ -21,12 +21,10 @@ use Rattle.ssa_form.specs.declared.form.OneOp.{OneOp}
 use Rattle.ssa_form.specs.Value.{bin_value, one_value, select_value}
 use Rattle.emit_ops.specs.Templates.{eax, load_reg, bin_code, one_code, select_code, load_code, store_code, move_code}
 use Rattle.ia_encode.specs.declared.item.Dest.{Dest}
-use Rattle.ia_encode.specs.declared.item.Item.{Item}
-use Rattle.ia_encode.specs.declared.item.Item.TheVariants.{Byte, Jump}
-use Rattle.ia_encode.specs.Items.{size_of_items, bytes_of_items, size_of_jump, jump_inst, distance, Reads, with_labels, AreDistinct, AreValid, StandsAt, Stands}
+use Rattle.ia_encode.specs.Items.{size_of_items, size_of_jump, jump_inst, distance, Reads, StandsAt, Stands}
 use Rattle.code_laws.specs.Exchange.{Homes, FlagsHeld, Besides, Captured, Restored, Opened}
 use Rattle.par_moves.specs.Homes.{AreHomes}
-use Rattle.fall_stubs.specs.Exchange.{capture_items, spill_items, restore_items, opening_items, island_items}
+use Rattle.fall_stubs.specs.Exchange.{capture_items, restore_items, opening_items, island_items}
 use Rattle.code_laws.specs.Seen.{Cells, private_region, IsCode, Sees, Leads, Quiet}
 
 -- at this address, seen as cells of which Q holds

@@ -1,23 +1,21 @@
 -- A list of placed lines, and what its code leaves.
-use Rattle.std.specs.Prelude.{◌≡◌, ℕ, ◌+◌, ◌^◌, ◌<◌, ◌≤◌, Bool, true, false, List, [], ◌∷◌, ◌++◌, length, ◌⊎◌, ◌≢◌, if◌then◌else◌}
+use Rattle.std.specs.Prelude.{◌≡◌, ℕ, ◌+◌, ◌^◌, ◌<◌, ◌≤◌, Bool, true, false, List, [], ◌∷◌, ◌++◌, length, ◌⊎◌, ◌≢◌}
 use Rattle.br_word.specs.Memory.{Region, HoldBytes}
 use Rattle.br_word.specs.State.{State}
 use Rattle.ia_inst.specs.declared.inst.Inst.{Inst}
 use Rattle.par_moves.specs.declared.locations.Place.{Place}
 use Rattle.par_moves.specs.declared.locations.Place.TheVariants.{Slot}
-use Rattle.par_moves.specs.declared.locations.MoveSource.{MoveSource as Source}
-use Rattle.par_moves.specs.Locations.{same_place as place_eq, held, InRange, IsKept}
+use Rattle.par_moves.specs.Locations.{same_place as place_eq, InRange, IsKept}
 use Rattle.ssa_form.specs.declared.form.Val.{Val}
 use Rattle.ssa_form.specs.declared.form.Val.TheVariants.{Param, Line as Named}
 use Rattle.ssa_form.specs.declared.form.Val.TheVariants as val
 use Rattle.ssa_form.specs.declared.form.Line.{Line}
 use Rattle.ssa_form.specs.declared.form.Line.TheVariants.{Bin, One, Select, Load, Store, Gone}
 use Rattle.ssa_form.specs.Value.{Env, fold, AllAllowed}
-use Rattle.emit_ops.specs.Templates.{line_code, move_code}
+use Rattle.emit_ops.specs.Templates.{line_code}
 use Rattle.ia_encode.specs.Items.{StandsAt}
-use Rattle.code_laws.specs.Exchange.{Besides}
 use Rattle.code_laws.specs.Seen.{Cells, Sees, Leads, Quiet}
-use Rattle.code_laws.specs.Laws.{Comes, IsOperand, IsResult}
+use Rattle.code_laws.specs.Laws.{Comes}
 
 abbrev pub lines_code : (ℕ → Place) → (ℕ → Place) → List (ℕ × Line) → List Inst
 lines_code home place [] = []

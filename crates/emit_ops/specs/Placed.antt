@@ -1,12 +1,12 @@
 -- What the code of a line asks of the places of its block's lines.
-use Rattle.std.specs.Prelude.{◌≡◌, ℕ, ◌<◌, ◌^◌, List, Option, Some, None, slice_get, get_or}
+use Rattle.std.specs.Prelude.{ℕ, ◌<◌, ◌^◌, List, Option, Some, None, slice_get}
 use Rattle.ssa_form.specs.declared.form.Val.{Val}
 use Rattle.ssa_form.specs.declared.form.Val.TheVariants as val
 use Rattle.ssa_form.specs.declared.form.Line.{Line}
 use Rattle.ssa_form.specs.declared.form.Line.TheVariants.{Bin, One, Select, Load, Store, Gone}
 use Rattle.ssa_form.specs.declared.form.TheConstants.{REGISTERS}
 use Rattle.par_moves.specs.declared.locations.Place.{Place}
-use Rattle.par_moves.specs.declared.locations.Place.TheVariants.{Reg, Slot}
+use Rattle.par_moves.specs.declared.locations.Place.TheVariants.{Slot}
 use Rattle.par_moves.specs.Locations.{InRange, IsKept}
 
 -- the place at an index, where there is one

@@ -1,5 +1,5 @@
 -- A front part of a sequence of parts.
-use Rattle.std.proofs.Common.{◌≡◌, ℕ, zero, suc, ◌+◌, ◌∙◌, ◌++◌, [], ◌∷◌, List, Result, Ok, Err, ap, sym, append_assoc, append-nil, length, take, refl, arith}
+use Rattle.std.proofs.Common.{◌≡◌, ℕ, zero, suc, ◌+◌, ◌∙◌, ◌++◌, [], ◌∷◌, List, Result, Ok, Err, ap, sym, append_assoc, length, take, refl, arith}
 use Rattle.std.specs.Prelude.{OnErr}
 use Rattle.std.proofs.lemmas.List.{take_at}
 use Rattle.ia_encode.specs.declared.item.Item.{Item}

@@ -1,10 +1,8 @@
 -- Parallel moves: the order in which they are done one after another, and what they do.
-use Rattle.std.specs.Prelude.{◌≡◌, ℕ, zero, suc, ◌==◌, Bool, false, not, ◌||◌, cond, List, [], ◌∷◌, ◌++◌, length, Option, Some, None, map, filter, find, All, ◌<◌, slice_index_or}
+use Rattle.std.specs.Prelude.{◌≡◌, ℕ, zero, suc, Bool, false, not, ◌||◌, cond, List, [], ◌∷◌, ◌++◌, length, Option, Some, None, map, filter, find, All, ◌<◌, slice_index_or}
 use Rattle.std.specs.List.{list_all}
 use Rattle.par_moves.specs.declared.locations.Place.{Place}
-use Rattle.par_moves.specs.declared.locations.Place.TheVariants.{Reg, Slot}
-use Rattle.par_moves.specs.declared.locations.MoveSource.{MoveSource}
-use Rattle.par_moves.specs.declared.locations.MoveSource.TheVariants.{Place as Of, Num}
+use Rattle.par_moves.specs.declared.locations.MoveSource.TheVariants.{Place as Of}
 use Rattle.par_moves.specs.declared.locations.PlaceMove.{PlaceMove}
 use Rattle.par_moves.specs.Locations.{same_place, spare, is_from, held}
 

@@ -1,4 +1,4 @@
-use Rattle.std.proofs.Common.{◌≡◌, ◌∙◌, ◌++◌, ◌∷◌, [], map}
+use Rattle.std.proofs.Common.{◌∙◌, ◌++◌, map}
 use Rattle.ia_encode.specs.declared.item.Item.TheVariants as item
 use Rattle.par_moves.specs.Homes.{register_homes}
 use Rattle.fall_stubs.specs.Exchange.{low_stores, high_stores, flag_stores, home_code}

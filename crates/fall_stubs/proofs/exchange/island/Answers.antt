@@ -1,4 +1,4 @@
-use Rattle.std.proofs.Common.{◌≡◌, ◌∙◌, ◌++◌, ◌∷◌, [], map, None}
+use Rattle.std.proofs.Common.{◌∙◌, ◌++◌, ◌∷◌, [], map, None}
 use Rattle.ia_encode.specs.declared.item.Item.TheVariants as item
 use Rattle.par_moves.specs.Homes.{register_homes}
 use Rattle.fall_stubs.specs.Exchange.{spill_items, restore_items, capture_items, closing_items}

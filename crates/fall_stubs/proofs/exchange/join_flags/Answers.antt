@@ -1,6 +1,5 @@
-use Rattle.std.proofs.Common.{◌≡◌, ◌∙◌, ◌++◌, ◌∷◌, [], map, ap}
+use Rattle.std.proofs.Common.{◌∙◌, ◌++◌, ◌∷◌, [], map, ap}
 use Rattle.ia_encode.specs.declared.item.Item.TheVariants as item
-use Rattle.par_moves.specs.Homes.{register_homes}
 use Rattle.fall_stubs.specs.Exchange.{reg_from_slot, joined}
 use Rattle.fall_stubs.proofs.Parts.{anyway, follows, both, grew_whole}
 use Rattle.fall_stubs.proofs.exchange.join_flags.Goals as goal

@@ -1,6 +1,5 @@
-use Rattle.std.proofs.Common.{◌≡◌, ◌∙◌, ◌++◌, ◌∷◌, [], map}
+use Rattle.std.proofs.Common.{◌∙◌, ◌++◌, map}
 use Rattle.ia_encode.specs.declared.item.Item.TheVariants as item
-use Rattle.par_moves.specs.Homes.{register_homes}
 use Rattle.fall_stubs.specs.Exchange.{direction_items, joined_flags, restore_flags, low_loads, high_loads}
 use Rattle.fall_stubs.proofs.Parts.{anyway, follows, both, grew_whole, grew_more, grew_wider}
 use Rattle.fall_stubs.proofs.exchange.restore.Goals as goal
