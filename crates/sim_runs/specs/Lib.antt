@@ -1,0 +1,15 @@
+pub mod Forward
+pub mod Whole
+pub mod Native
+pub mod Relation
+pub mod Laws
+pub mod Leaving
+pub mod Image
+pub mod Lines
+pub mod Coding
+pub mod Recovered
+pub mod Promised
+pub mod Law
+pub mod WholeBlock
+pub mod Passes
+pub mod Pieces
