@@ -42,6 +42,18 @@ run_natively() {
     esac
 }
 
+# Passes where the status is the wanted one and a line of the file matches: NAME WANTED PATTERN STATUS FILE.
+# Without a pattern the status alone decides.
+judge() {
+    if [ "$4" != "$2" ]; then
+        fail "$1: status $4, wanted $2: $(cat "$5")"
+    elif [ -n "$3" ] && ! grep -Eq -- "$3" "$5"; then
+        fail "$1: no line '$3': $(cat "$5")"
+    else
+        pass
+    fi
+}
+
 # Hexadecimal digits, blanks between them ignored, as bytes on standard output.
 bytes() { printf "$(tr -d ' \n' <<< "$*" | sed 's/../\\x&/g')"; }
 

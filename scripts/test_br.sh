@@ -18,16 +18,7 @@ told() {
     local name=$1 wanted=$2 pattern=$3
     shift 3
     "$br" "$@" > got.out 2> got.err < "${input:-/dev/null}"
-    judge "$name" "$wanted" "$pattern" $?
-}
-judge() {
-    if [ "$4" != "$2" ]; then
-        fail "$1: status $4, wanted $2: $(cat got.err)"
-    elif [ -n "$3" ] && ! grep -Eq -- "$3" got.err; then
-        fail "$1: no line '$3': $(cat got.err)"
-    else
-        pass
-    fi
+    judge "$name" "$wanted" "$pattern" $? got.err
 }
 
 # As `told` with status 8, over words that would replace the file KEPT: it stays.
@@ -113,17 +104,17 @@ mistake_rows() {
     told 'an input that is a folder' 3 'standard input is a folder' run reading
     input=
     "$br" run reading > /dev/null 2> got.err <&-
-    judge 'an input that is closed' 3 'standard input is closed' $?
+    judge 'an input that is closed' 3 'standard input is closed' $? got.err
     "$br" run E 2> got.err >&-
-    judge 'an output that is closed' 3 'standard output is closed' $?
+    judge 'an output that is closed' 3 'standard output is closed' $? got.err
     { "$br" run E 2> got.err; echo $? > status; } | true
-    judge 'an output without a reader' 3 'standard output is a pipe whose reader ended' "$(cat status)"
+    judge 'an output without a reader' 3 'standard output is a pipe whose reader ended' "$(cat status)" got.err
     "$br" run E > /dev/null 2> /dev/full
     [ $? = 3 ] && pass || fail 'a report that cannot be written'
     "$br" run E > /dev/null 2>&-
     [ $? = 3 ] && pass || fail 'a report that is closed'
     (ulimit -f 1 && "$br" build grown E 2> got.err)
-    judge 'a limit on files' 3 'a file may have at most' $?
+    judge 'a limit on files' 3 'a file may have at most' $? got.err
 }
 
 permission_rows() {
@@ -138,7 +129,7 @@ permission_rows() {
     fi
     for name in 'show secret:may not be read' 'build closed/N E:closed may not be written'; do
         "${user[@]}" "$br" ${name%:*} > /dev/null 2> got.err
-        judge "${name%:*} without permission" 3 "${name#*:}" $?
+        judge "${name%:*} without permission" 3 "${name#*:}" $? got.err
     done
 }
 
@@ -172,7 +163,7 @@ stream_rows() {
     printf 'A' >&5
     exec 5>&- 6<&-
     wait $!
-    judge 'a dialogue' 0 '^exit 65 steps' $?
+    judge 'a dialogue' 0 '^exit 65 steps' $? got.err
     # Writes "exit 1" to descriptor 2 without a line feed, and exits: the report stands behind it.
     executable mixed 'b804000000 bb02000000 b976800408 ba06000000 cd80 b801000000 bb00000000 cd80 657869742031'
     told 'a text before the report' 0 '^exit 1exit 0 steps 8 undefined 0$' run mixed
@@ -180,7 +171,7 @@ stream_rows() {
     told 'the version' 0 '' --version
     if grep -q '^program .*SHA-256 [0-9a-f]\{64\}$' got.out; then pass; else fail "the version: $(cat got.out)"; fi
     BINREC=/nowhere "$br" --version > got.out 2> got.err
-    judge 'no program' 127 'no program: build it' $?
+    judge 'no program' 127 'no program: build it' $? got.err
 }
 
 ln -s nothing dangling

@@ -15,14 +15,7 @@ case_of() {
     local name=$1 wanted=$2 pattern=$3
     shift 3
     "$here/cc32" "$@" > got.out 2>&1
-    local status=$?
-    if [ "$status" != "$wanted" ]; then
-        fail "$name: status $status, wanted $wanted: $(cat got.out)"
-    elif ! grep -Eq -- "$pattern" got.out; then
-        fail "$name: no line '$pattern': $(cat got.out)"
-    else
-        pass
-    fi
+    judge "$name" "$wanted" "$pattern" $? got.out
 }
 
 cat > guest.c << 'C'

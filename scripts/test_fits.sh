@@ -12,14 +12,7 @@ export BINREC=${tool[0]}
 # NAME STATUS PATTERN FILE: `fits` ends with the status, and a line of it matches.
 case_of() {
     "$here/fits" "$4" > got.out 2> got.err
-    local status=$?
-    if [ "$status" != "$2" ]; then
-        fail "$1: status $status, wanted $2: $(cat got.out got.err)"
-    elif ! grep -Eq -- "$3" got.out; then
-        fail "$1: no line '$3': $(cat got.out)"
-    else
-        pass
-    fi
+    judge "$1" "$2" "$3" $? got.out
 }
 
 exit_code='b801000000 bb00000000 cd80'
