@@ -51,7 +51,8 @@ pub record TracesExe (target digest : List ℕ) (n : ℕ) (exe : Exe) (start : S
   pub full : (k : ℕ) → k ≤ n → FewBefore k exe start → FILE_EDGE_LIMIT < length (edges_in exe start k) → HasFilled k start s result t
 
 -- by what the file is as an original
-abbrev pub TracesRead : List ℕ → ℕ → List (List ℕ) → ℕ → List ℕ → List ℕ → Result Exe Refused → Files → World → ℕ → World → Type 0
+abbrev pub TracesRead : List ℕ → ℕ → List (List ℕ) → ℕ → List ℕ → List ℕ → Result Exe Refused → Files →
+    World → ℕ → World → Type 0
 TracesRead target n args word left content (Ok exe) files s result t =
     TracesExe target (sha256 content) n exe (opening exe (arguments args) left) files s result t
 TracesRead target n args word left content (Err refused) files s result t = IsRefused word refused.number refused.place s result t
