@@ -22,7 +22,8 @@ use Rattle.ia_encode.specs.Items.{StandsAt}
 use Rattle.ssa_form.specs.declared.form.Val.TheVariants as lines
 use Rattle.code_laws.specs.Seen.{Cells, private_region, IsCode, Sees, Leads, Quiet}
 use Rattle.code_laws.specs.Laws.{Comes, Gave, Stored, IsOperand}
-use Rattle.code_laws.specs.Placed.{lines_code, IsNamed, Used, AllHigh, IsVal, ValsOf, Laid, IsSpare, Holds, Left, LinesHold}
+use Rattle.code_laws.specs.Placed.{IsNamed, Used, AllHigh, IsVal, ValsOf, Laid, IsSpare, Holds, Left, LinesHold}
+use Rattle.emit_ops.specs.Sequences.{lines_code}
 use Rattle.code_laws.proofs.Runs.{stands_front, leads_as, leads_then, leads_none}
 use Rattle.code_laws.proofs.Memory.{length_bytes}
 use Rattle.code_laws.proofs.Means.{template_means}

@@ -13,7 +13,8 @@ use Rattle.emit_ops.specs.Templates.{move_code}
 use Rattle.ia_encode.specs.Items.{StandsAt}
 use Rattle.code_laws.specs.Seen.{Cells, IsCode, Leads, Quiet}
 use Rattle.code_laws.specs.Laws.{Comes, Gave}
-use Rattle.code_laws.specs.Moves.{moves_code, AllServe, Moved, MovesHold}
+use Rattle.code_laws.specs.Moves.{AllServe, Moved, MovesHold}
+use Rattle.emit_ops.specs.Sequences.{moves_code}
 use Rattle.code_laws.proofs.Gives.{place_eq_refl}
 use Rattle.code_laws.proofs.Runs.{stands_front, leads_as, leads_then, leads_none}
 use Rattle.code_laws.proofs.Means.{template_means}

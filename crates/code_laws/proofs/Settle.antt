@@ -16,7 +16,8 @@ use Rattle.emit_ops.specs.Templates.{held_by}
 use Rattle.code_laws.specs.Seen.{Cells, IsCode}
 use Rattle.code_laws.specs.Laws.{Comes, IsOperand, IsResult}
 use Rattle.code_laws.specs.Placed.{IsVal, Laid}
-use Rattle.code_laws.specs.Moves.{moves_code, AllServe, Moved, keeps_itself, move_of, live_moves, in_order, HomesApart, AreOuts, MayBeGiven, Settled, MovesSettle}
+use Rattle.code_laws.specs.Moves.{AllServe, Moved, HomesApart, AreOuts, MayBeGiven, Settled, MovesSettle}
+use Rattle.emit_ops.specs.Sequences.{moves_code, keeps_itself, move_of, live_moves, in_order}
 use Rattle.code_laws.proofs.Runs.{leads_as}
 use Rattle.code_laws.proofs.Moves.{moves_hold, other_way}
 

@@ -1,8 +1,7 @@
 -- What the code of moves does, also of those that are done on the way to another block.
-use Rattle.std.specs.Prelude.{◌≡◌, ◌≢◌, ℕ, suc, ◌<◌, ◌==◌, Bool, true, false, ◌&&◌, not, cond, List, [], ◌∷◌, ◌++◌, length, get_or, All}
+use Rattle.std.specs.Prelude.{◌≡◌, ◌≢◌, ℕ, ◌<◌, Bool, true, false, List, [], ◌∷◌, length, get_or, All}
 use Rattle.br_word.specs.Memory.{Region}
 use Rattle.br_word.specs.State.{State}
-use Rattle.ia_inst.specs.declared.inst.Inst.{Inst}
 use Rattle.ia_encode.specs.Items.{StandsAt}
 use Rattle.ssa_form.specs.declared.form.TheConstants.{REGISTERS}
 use Rattle.ssa_form.specs.declared.form.Val.{Val}
@@ -10,18 +9,15 @@ use Rattle.ssa_form.specs.declared.form.Val.TheVariants as val
 use Rattle.par_moves.specs.declared.locations.Place.{Place}
 use Rattle.par_moves.specs.declared.locations.PlaceMove.{PlaceMove}
 use Rattle.par_moves.specs.Locations.{same_place, spare, held, IsKept}
-use Rattle.par_moves.specs.Moves.{sequenced, done, AreApart}
-use Rattle.emit_ops.specs.Templates.{move_code, held_by}
+use Rattle.par_moves.specs.Moves.{done, AreApart}
+use Rattle.emit_ops.specs.Templates.{held_by}
+use Rattle.emit_ops.specs.Sequences.{moves_code, live_moves, in_order}
 use Rattle.code_laws.specs.Exchange.{Besides}
 use Rattle.code_laws.specs.Seen.{Cells, Sees, Leads, Quiet}
 use Rattle.code_laws.specs.Laws.{Comes, IsOperand, IsResult}
 use Rattle.code_laws.specs.Placed.{IsVal}
 
 -- ---- moves one after another
-
-abbrev pub moves_code : List PlaceMove → List Inst
-moves_code [] = []
-moves_code (m ∷ ms) = move_code m.to m.from ++ moves_code ms
 
 -- none reads or writes eax or ecx
 abbrev pub AllServe : List PlaceMove → Type 0
@@ -41,27 +37,6 @@ MovesHold code = (ms : List PlaceMove) (s : State) (a : Cells) (to : ℕ) (cs : 
     Leads (Quiet a.seen) (Comes code to (Moved a (done ms a.cell))) (length (moves_code ms)) s cs
 
 -- ---- moves on the way to another block
-
--- the register keeps its value
-abbrev pub keeps_itself : ℕ → Val → Bool
-keeps_itself v (val.Param u) = u == v
-keeps_itself v (val.Line j) = false
-keeps_itself v (val.Num n) = false
-
-abbrev pub move_of : (ℕ → Place) → (ℕ → Place) → ℕ → Val → PlaceMove
-move_of home place v out = record { to = home v; from = held_by home place out }
-
--- the home of each live register, from v on and ascending, takes its out, but for those that keep their value
-abbrev pub live_moves : (ℕ → Place) → (ℕ → Place) → (ℕ → Bool) → ℕ → List Val → List PlaceMove
-live_moves home place live v [] = []
-live_moves home place live v (out ∷ outs) =
-    cond (live v && not (keeps_itself v out))
-    (move_of home place v out ∷ live_moves home place live (suc v) outs)
-    (live_moves home place live (suc v) outs)
-
--- in the order of `sequence`
-abbrev pub in_order : List PlaceMove → List PlaceMove
-in_order ms = sequenced (length ms) ms
 
 -- homes are distinct, and none is the spare
 pub record HomesApart (home : ℕ → Place) : Type 0 where

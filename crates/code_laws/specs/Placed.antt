@@ -1,8 +1,7 @@
 -- A list of placed lines, and what its code leaves.
-use Rattle.std.specs.Prelude.{◌≡◌, ℕ, ◌+◌, ◌^◌, ◌<◌, ◌≤◌, Bool, true, false, List, [], ◌∷◌, ◌++◌, length, ◌⊎◌, ◌≢◌}
+use Rattle.std.specs.Prelude.{◌≡◌, ℕ, ◌+◌, ◌^◌, ◌<◌, ◌≤◌, Bool, true, false, List, [], ◌∷◌, length, ◌⊎◌, ◌≢◌}
 use Rattle.br_word.specs.Memory.{Region, HoldBytes}
 use Rattle.br_word.specs.State.{State}
-use Rattle.ia_inst.specs.declared.inst.Inst.{Inst}
 use Rattle.par_moves.specs.declared.locations.Place.{Place}
 use Rattle.par_moves.specs.declared.locations.Place.TheVariants.{Slot}
 use Rattle.par_moves.specs.Locations.{same_place as place_eq, InRange, IsKept}
@@ -12,14 +11,10 @@ use Rattle.ssa_form.specs.declared.form.Val.TheVariants as val
 use Rattle.ssa_form.specs.declared.form.Line.{Line}
 use Rattle.ssa_form.specs.declared.form.Line.TheVariants.{Bin, One, Select, Load, Store, Gone}
 use Rattle.ssa_form.specs.Value.{Env, fold, AllAllowed}
-use Rattle.emit_ops.specs.Templates.{line_code}
+use Rattle.emit_ops.specs.Sequences.{lines_code}
 use Rattle.ia_encode.specs.Items.{StandsAt}
 use Rattle.code_laws.specs.Seen.{Cells, Sees, Leads, Quiet}
 use Rattle.code_laws.specs.Laws.{Comes}
-
-abbrev pub lines_code : (ℕ → Place) → (ℕ → Place) → List (ℕ × Line) → List Inst
-lines_code home place [] = []
-lines_code home place (p ∷ ps) = line_code home place p.0 p.1 ++ lines_code home place ps
 
 -- what a value, a line and a list of lines name; last is what outs and exit name
 abbrev pub IsNamed : Val → ℕ → Type 0

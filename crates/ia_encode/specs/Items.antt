@@ -67,6 +67,16 @@ with_labels dest at items (dests.Block start) = dest (dests.Block start)
 with_labels dest at items (dests.Original place) = dest (dests.Original place)
 with_labels dest at items (dests.Label l) = label_at at items l
 
+-- where destinations lie: a block at an address of its own, an address of the original at itself
+abbrev pub goes_to : (ℕ → ℕ) → Dest → ℕ
+goes_to address (dests.Block start) = address start
+goes_to address (dests.Original place) = place
+goes_to address (dests.Label l) = 0
+
+-- and the labels of items that stand at an address
+abbrev pub dest_at : (ℕ → ℕ) → ℕ → List Item → Dest → ℕ
+dest_at address at items = with_labels (goes_to address) at items
+
 -- the label is not among them
 abbrev pub Lacks : ℕ → List Item → Type 0
 Lacks l [] = Unit {0}

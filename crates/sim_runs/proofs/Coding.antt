@@ -10,7 +10,8 @@ use Rattle.ssa_form.specs.declared.form.Val.TheVariants.{Param, Line as Named, N
 use Rattle.ssa_form.specs.declared.form.Line.{Line}
 use Rattle.ssa_form.specs.declared.form.Line.TheVariants.{Bin, One, Select, Load, Store, Gone}
 use Rattle.ssa_form.specs.Value.{Env, fold, AllAllowed, select_value, outs_of, exit_of}
-use Rattle.sim_runs.specs.Lines.{NamedIn, LineIn, MustStay, Closed, kept, Alike, Below, Ordered, either, AllSunk}
+use Rattle.sim_runs.specs.Lines.{NamedIn, LineIn, MustStay, Closed, Alike, Below, Ordered, either, AllSunk}
+use Rattle.emit_ops.specs.Sequences.{kept}
 use Rattle.ssa_form.specs.declared.form.Exit.{Exit}
 use Rattle.ssa_form.specs.declared.form.Exit.TheVariants.{Jump, Cond, Way, Island}
 use Rattle.ssa_form.specs.declared.form.Block.{Block}

@@ -9,7 +9,8 @@ use Rattle.ssa_form.specs.declared.form.Val.TheVariants.{Param, Line as Named, N
 use Rattle.ssa_form.specs.declared.form.Line.{Line}
 use Rattle.ssa_form.specs.declared.form.Line.TheVariants.{Bin, One, Select, Load, Store, Gone}
 use Rattle.ssa_form.specs.Value.{Env, value, with_line, loaded, stored, line_next, fold, IsAllowed, AllAllowed, bin_value, one_value, select_value}
-use Rattle.sim_runs.specs.Lines.{NamedIn, LineIn, MustStay, Closed, kept, Alike, Below, LineBelow, Ordered, IsSunk, AllSunk, either}
+use Rattle.sim_runs.specs.Lines.{NamedIn, LineIn, MustStay, Closed, Alike, Below, LineBelow, Ordered, IsSunk, AllSunk, either}
+use Rattle.emit_ops.specs.Sequences.{kept}
 
 module _ (on keep : ℕ → Bool) where
   pub same_value : (e f : Env) → Alike on keep e f → (v : Val) → NamedIn on keep v → value e v ≡ value f v

@@ -12,7 +12,8 @@ use Rattle.ia_encode.specs.Items.{size_of_items, size_of_jump, jump_inst, distan
 use Rattle.sim_runs.specs.Laws.{Arrives, Leaves}
 use Rattle.sim_runs.specs.Recovered.{plan_of}
 use Rattle.sim_runs.specs.Passes.{count_of}
-use Rattle.sim_runs.specs.Pieces.{fragment_items, dest_at, goes_to, FragmentsRun}
+use Rattle.sim_runs.specs.Pieces.{fragment_items, FragmentsRun}
+use Rattle.ia_encode.specs.Items.{dest_at, goes_to}
 use Rattle.sim_runs.proofs.Pass.{gets_map, gets_leads}
 use Rattle.sim_runs.proofs.Pieces.{pieces_pass}
 

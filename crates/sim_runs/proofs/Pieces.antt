@@ -78,19 +78,19 @@ module _ (dest : Dest → ℕ) (exe : Exe) (edges : List Edge) (c : Coded) (x : 
     abbrev End : ℕ → State → Type 0
     End y u = ((knows y ≡ true) × Tailed c k env a y u) ⊎ ((knows y ≡ false) × Restored plan y (outs_of k.block.outs whole) whole.mem a u)
 
-    part : (y : ℕ) → is_out k.block.exit y ≡ true → Passes dest c.code (part_of knows pieces y) (Held c k env a) (End y)
-    part y out = go (knows y) refl
+    part : (l y : ℕ) → is_out k.block.exit y ≡ true → Passes dest c.code (part_of knows pieces l y) (Held c k env a) (End y)
+    part l y out = go (knows y) refl
       where
-        go : (b : Bool) → knows y ≡ b → Passes dest c.code (if b then pieces.tail y else pieces.stub y) (Held c k env a) (End y)
+        go : (b : Bool) → knows y ≡ b → Passes dest c.code (if b then pieces.tail y else pieces.stub l y) (Held c k env a) (End y)
         go true h = λ at u cs s q. gets_map (Tailed c k env a y) (End y) 1 1 _ _ u cs (omega arith) (omega arith) (λ w t. inl (h, t)) (run.tail y h at u cs s q)
-        go false h = λ at u cs s q. gets_map (Restored plan y (outs_of k.block.outs whole) whole.mem a) (End y) 1 1 _ _ u cs (omega arith) (omega arith) (λ w t. inr (h, t)) (run.stub y out h at u cs s q)
+        go false h = λ at u cs s q. gets_map (Restored plan y (outs_of k.block.outs whole) whole.mem a) (End y) 1 1 _ _ u cs (omega arith) (omega arith) (λ w t. inr (h, t)) (run.stub l y out h at u cs s q)
 
     by_exit : (w : Exit) → k.block.exit ≡ w → Passes dest c.code (exit_items knows ys pieces w) (Held c k env a) (End (exit_of w env))
-    by_exit (Jump to) q = part to (ap (λ w. is_out w to) q ∙ eq-eqb to to refl)
+    by_exit (Jump to) q = part 0 to (ap (λ w. is_out w to) q ∙ eq-eqb to to refl)
     by_exit (Cond t taken next) q =
         let ask = subst (λ w. (at : ℕ) (u : State) (cs : List ℕ) → StandsFrom dest c.code at (pieces.ask ++ (item.Jump (Some 5) (dests.Label pieces.other) ∷ [])) → Held c k env a at u → Gets (Held c k env a (if test_of w env then dest (dests.Label pieces.other) else at + size_of_items pieces.ask + 6)) 0 (count_of pieces.ask + 1) u cs) q (run.ask (ap is_cond q)) in
         subst (λ y. Passes dest c.code (exit_items knows ys pieces (Cond t taken next)) (Held c k env a) (End y)) (turned (value env t == 0))
-        (cond_serves dest c.code (Held c k env a) (λ at u. Aimed c k env a 0 at u) End pieces.ask (part_of knows pieces next) (part_of knows pieces taken) pieces.other taken next (not (value env t == 0)) ask (part next (ap (λ w. is_out w next) q ∙ later (next == taken) (eq-eqb next next refl))) (part taken (ap (λ w. is_out w taken) q ∙ ap (λ b. b || (taken == next)) (eq-eqb taken taken refl))))
+        (cond_serves dest c.code (Held c k env a) (λ at u. Aimed c k env a 0 at u) End pieces.ask (part_of knows pieces 0 next) (part_of knows pieces 1 taken) pieces.other taken next (not (value env t == 0)) ask (part 0 next (ap (λ w. is_out w next) q ∙ later (next == taken) (eq-eqb next next refl))) (part 1 taken (ap (λ w. is_out w taken) q ∙ ap (λ b. b || (taken == next)) (eq-eqb taken taken refl))))
       where
         turned : (b : Bool) → (if not b then taken else next) ≡ cond b next taken
         turned true = refl

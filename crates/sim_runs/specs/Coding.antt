@@ -10,7 +10,8 @@ use Rattle.ssa_form.specs.declared.form.Exit.{Exit}
 use Rattle.ssa_form.specs.declared.form.Exit.TheVariants.{Jump, Cond, Way, Island}
 use Rattle.ssa_form.specs.declared.form.Block.{Block}
 use Rattle.ssa_form.specs.Same.{rows, KeepsMeaning}
-use Rattle.sim_runs.specs.Lines.{NamedIn, Closed, kept, Below, Ordered, either, AllSunk}
+use Rattle.sim_runs.specs.Lines.{NamedIn, Closed, Below, Ordered, either, AllSunk}
+use Rattle.emit_ops.specs.Sequences.{kept}
 
 -- the value that an out names
 abbrev pub out_at : Block → ℕ → Val

@@ -35,11 +35,6 @@ abbrev pub Closed : (ℕ → Bool) → (ℕ → Bool) → List (ℕ × Line) →
 Closed on keep [] = Unit {0}
 Closed on keep (p ∷ ps) = MustStay keep p.0 p.1 × (keep p.0 ≡ true → LineIn on keep p.1) × Closed on keep ps
 
--- the lines that are kept
-abbrev pub kept : (ℕ → Bool) → List (ℕ × Line) → List (ℕ × Line)
-kept keep [] = []
-kept keep (p ∷ ps) = if keep p.0 then p ∷ kept keep ps else kept keep ps
-
 -- the same where it is live or kept
 pub record Alike (on keep : ℕ → Bool) (e f : Env) : Type 0 where
   pub params : (v : ℕ) → on v ≡ true → e.params v ≡ f.params v

@@ -10,7 +10,7 @@ use Rattle.ia_encode.specs.declared.item.Dest.{Dest}
 use Rattle.ia_encode.specs.declared.item.Dest.TheVariants as dests
 use Rattle.ia_encode.specs.declared.item.Item.{Item}
 use Rattle.ia_encode.specs.declared.item.Item.TheVariants as item
-use Rattle.ia_encode.specs.Items.{size_of_items, bytes_of_items, with_labels, AreDistinct, AreValid}
+use Rattle.ia_encode.specs.Items.{size_of_items, bytes_of_items, dest_at, AreDistinct, AreValid}
 use Rattle.run_model.specs.Edges.{Edge}
 use Rattle.block_cut.specs.Blocks.{block_of}
 use Rattle.block_cut.specs.CountedEdges.{counting}
@@ -23,7 +23,7 @@ use Rattle.code_laws.specs.Placed.{AllHigh}
 use Rattle.code_laws.specs.Seen.{Cells, Sees}
 use Rattle.sim_runs.specs.Relation.{Plan}
 use Rattle.sim_runs.specs.Laws.{Stays, Restored}
-use Rattle.sim_runs.specs.Lines.{kept}
+use Rattle.emit_ops.specs.Sequences.{kept}
 use Rattle.sim_runs.specs.Coding.{Coding, NamedLater}
 use Rattle.sim_runs.specs.Recovered.{Coded, is_island_end, is_start_of, knows_of, plan_of}
 use Rattle.sim_runs.specs.Promised.{ServesAt, Runs, FragmentRuns}
@@ -35,9 +35,9 @@ pub record Pieces : Type 0 where
   -- a condition's test, and the label of its taken part
   pub ask : List Item
   pub other : ℕ
-  -- the way to a known block, and the exit to an address of the original
+  -- the way to a known block, and, with a label of its own, the exit to an address of the original
   pub tail : ℕ → List Item
-  pub stub : ℕ → List Item
+  pub stub : ℕ → ℕ → List Item
   -- an indirect exit: its target, its comparisons, the labels of its tails, and its exit to the original
   pub aim : List Item
   pub compare : ℕ → Inst
@@ -45,13 +45,13 @@ pub record Pieces : Type 0 where
   pub way_stub : List Item
 
 -- the way to an address: to a known block, or to the original
-abbrev pub part_of : (ℕ → Bool) → Pieces → ℕ → List Item
-part_of knows k y = if knows y then k.tail y else k.stub y
+abbrev pub part_of : (ℕ → Bool) → Pieces → ℕ → ℕ → List Item
+part_of knows k l y = if knows y then k.tail y else k.stub l y
 
 -- what stands behind the body, by the exit; ys are the known exits
 abbrev pub exit_items : (ℕ → Bool) → List ℕ → Pieces → Exit → List Item
-exit_items knows ys k (Jump to) = part_of knows k to
-exit_items knows ys k (Cond t taken next) = cond_items k.ask k.other (part_of knows k next) (part_of knows k taken)
+exit_items knows ys k (Jump to) = part_of knows k 0 to
+exit_items knows ys k (Cond t taken next) = cond_items k.ask k.other (part_of knows k 0 next) (part_of knows k 1 taken)
 exit_items knows ys k (Way v) = k.aim ++ (chain k.compare k.label ys ++ (k.way_stub ++ tails k.tail k.label ys))
 exit_items knows ys k (Island len) = []
 
@@ -133,8 +133,8 @@ pub record PiecesRun (dest : Dest → ℕ) (plan : Plan) (c : Coded) (k : Coding
       → Gets (Held c k env a (at + size_of_items pieces.body)) 0 (count_of pieces.body) u cs
   pub tail : (y : ℕ) → knows y ≡ true
       → Passes dest c.code (pieces.tail y) (Held c k env a) (Tailed c k env a y)
-  pub stub : (y : ℕ) → is_out k.block.exit y ≡ true → knows y ≡ false
-      → Passes dest c.code (pieces.stub y) (Held c k env a) (Restored plan y (outs_of k.block.outs whole) whole.mem a)
+  pub stub : (l y : ℕ) → is_out k.block.exit y ≡ true → knows y ≡ false
+      → Passes dest c.code (pieces.stub l y) (Held c k env a) (Restored plan y (outs_of k.block.outs whole) whole.mem a)
   pub ask : is_cond k.block.exit ≡ true → (at : ℕ) (u : State) (cs : List ℕ)
       → StandsFrom dest c.code at (pieces.ask ++ (item.Jump (Some 5) (dests.Label pieces.other) ∷ [])) → Held c k env a at u
       → Gets (Held c k env a (tested_to dest k pieces env at)) 0 (count_of pieces.ask + 1) u cs
@@ -155,16 +155,6 @@ pub record PiecesRun (dest : Dest → ℕ) (plan : Plan) (c : Coded) (k : Coding
 abbrev pub fragment_items : Exe → List Edge → Coding → Pieces → ℕ → List Item
 fragment_items exe edges k pieces x =
     pieces.body ++ exit_items (knows_of exe edges x) (known_of exe (counting exe edges) x) pieces k.block.exit
-
--- where destinations lie: a block at its fragment, an address of the original at itself
-abbrev pub goes_to : (ℕ → ℕ) → Dest → ℕ
-goes_to address (dests.Block y) = address y
-goes_to address (dests.Original y) = y
-goes_to address (dests.Label l) = 0
-
--- and the labels of items that stand at an address
-abbrev pub dest_at : (ℕ → ℕ) → ℕ → List Item → Dest → ℕ
-dest_at address at is = with_labels (goes_to address) at is
 
 -- their bytes stand at an address of the code
 pub record IsLinked (code : Region) (address : ℕ → ℕ) (at : ℕ) (is : List Item) : Type 0 where
