@@ -216,7 +216,7 @@ fn place_of(places: &[Option<Place>], index: u32) -> Place
 {
     match places.get(index as usize) {
         Some(Some(place)) => *place,
-        _ => Place::Slot(0),
+        _ => unreachable!(),
     }
 }
 

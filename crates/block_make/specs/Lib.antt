@@ -1,0 +1,5 @@
+pub use Rattle.lift_flow.specs.LiftedBlock
+pub mod Choices
+pub mod Keys
+pub mod FragmentItems
+pub mod FragmentCode

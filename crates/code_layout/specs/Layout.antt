@@ -1,0 +1,115 @@
+-- A layout: fragments that were added one behind another, and their code once the distances between them are filled in.
+use Rattle.std.specs.Prelude.{◌≡◌, ℕ, ◌+◌, ◌≤◌, ◌<◌, ◌==◌, Bool, true, false, if◌then◌else◌, List, [], ◌∷◌, ◌++◌, length, take, drop, map, All}
+use Rattle.br_word.specs.Memory.{bytes_of}
+use Rattle.elf_read.specs.declared.exe.Exe.{Exe}
+use Rattle.ia_encode.specs.Items.{distance}
+use Rattle.block_cut.specs.Transfers.{is_among}
+use Rattle.ssa_form.specs.declared.form.BlockKey.{BlockKey}
+use Rattle.block_make.specs.declared.fragment.Fix.{Fix}
+use Rattle.block_make.specs.FragmentCode.{OpenCode, code_of_items, coded}
+use Rattle.code_layout.specs.declared.place.TheConstants.{CODE_START, MAX_CODE}
+use Rattle.code_layout.specs.declared.built.Built.{Built}
+use Rattle.code_layout.specs.Linked.{entry_items, code_of_keys, has_key}
+use Rattle.code_layout.specs.Image.{image_with}
+
+-- a fragment that was added: the start of its block, and its code
+pub record Added : Type 0 where
+  pub start : ℕ
+  pub code : OpenCode
+
+-- what a layout is: the entry, whether a block starts there, and what was added; after want of memory it is spent
+pub record LayoutView : Type 0 where
+  pub entry : ℕ
+  pub known : Bool
+  pub added : List Added
+  pub spent : Bool
+
+-- the code at the entry
+abbrev pub entry_code : LayoutView → OpenCode
+entry_code v = code_of_items (entry_items v.entry v.known)
+
+-- ---- how long it is
+
+abbrev pub added_length : List Added → ℕ
+added_length [] = 0
+added_length (a ∷ as) = length a.code.bytes + added_length as
+
+abbrev pub code_length : LayoutView → ℕ
+code_length v = length (entry_code v).bytes + added_length v.added
+
+-- ---- its code
+
+-- the address of the fragment of a start
+abbrev pub added_at : ℕ → List Added → ℕ → ℕ
+added_at at [] y = 0
+added_at at (a ∷ as) y = if a.start == y then at else added_at (at + length a.code.bytes) as y
+
+-- a word put over four bytes at an offset
+abbrev pub with_word : ℕ → ℕ → List ℕ → List ℕ
+with_word at w bytes = take at bytes ++ (bytes_of 4 w ++ drop (at + 4) bytes)
+
+-- where a fix goes to: a block, or the original
+abbrev pub target_of : (ℕ → ℕ) → Fix → ℕ
+target_of address f = if f.known then address f.target else f.target
+
+-- the distances of fixes are filled in, in code that stands at an address
+abbrev pub filled : (ℕ → ℕ) → ℕ → List Fix → List ℕ → List ℕ
+filled address at [] bytes = bytes
+filled address at (f ∷ fs) bytes = filled address at fs (with_word f.at (distance (at + f.at + 4) (target_of address f)) bytes)
+
+abbrev pub filled_code : (ℕ → ℕ) → ℕ → OpenCode → List ℕ
+filled_code address at c = filled address at c.fixes c.bytes
+
+abbrev pub filled_from : (ℕ → ℕ) → ℕ → List Added → List ℕ
+filled_from address at [] = []
+filled_from address at (a ∷ as) = filled_code address at a.code ++ filled_from address (at + length a.code.bytes) as
+
+-- where the first fragment stands
+abbrev pub added_from : LayoutView → ℕ
+added_from v = CODE_START + length (entry_code v).bytes
+
+-- the code at the entry, and the fragments behind it
+unfoldable pub layout_code : LayoutView → List ℕ
+layout_code v =
+    let address = added_at (added_from v) v.added in
+    filled_code address CODE_START (entry_code v) ++ filled_from address (added_from v) v.added
+
+-- ---- what is asked of it
+
+-- a fragment of this start was added
+abbrev pub is_added : List Added → ℕ → Bool
+is_added as y = is_among (map (λ (a : Added). a.start) as) y
+
+-- each fix lies in the fragment, and where it goes to a block, that one was added
+pub record IsAddedFix (as : List Added) (count : ℕ) (f : Fix) : Type 0 where
+  pub inside : f.at + 4 ≤ count
+  pub there : f.known ≡ true → is_added as f.target ≡ true
+
+abbrev pub AreAdded : List Added → List Added → Type 0
+AreAdded as [] = Unit {0}
+AreAdded as (b ∷ bs) = All (IsAddedFix as (length b.code.bytes)) b.code.fixes × AreAdded as bs
+
+-- a layout whose file can be written: each known target was added, the entry exactly where it is known
+pub record IsWhole (v : LayoutView) : Type 0 where
+  pub targets : AreAdded v.added v.added
+  pub entry : is_added v.added v.entry ≡ v.known
+
+-- the file of its code
+abbrev pub built_by : Exe → LayoutView → Built
+built_by exe v = record { bytes = image_with exe (layout_code v); blocks = length v.added; code = code_length v }
+
+-- ---- what it comes to
+
+-- the fragments of keys, as they are added
+abbrev pub added_of : Exe → List BlockKey → List Added
+added_of exe keys = map (λ key. record { start = key.start; code = coded exe key }) keys
+
+-- a layout of them
+abbrev pub layout_of : Exe → List BlockKey → LayoutView
+layout_of exe keys = record { entry = exe.entry; known = has_key keys exe.entry; added = added_of exe keys; spent = false }
+
+-- Where the fragments of keys were added, filling in the distances gives the code of the keys, and so much was counted.
+pub record LayoutLinks : Type 0 where
+  pub code : (exe : Exe) (keys : List BlockKey) → code_length (layout_of exe keys) ≤ MAX_CODE
+      → layout_code (layout_of exe keys) ≡ code_of_keys exe keys
+  pub length_is : (exe : Exe) (keys : List BlockKey) → length (code_of_keys exe keys) ≡ code_length (layout_of exe keys)

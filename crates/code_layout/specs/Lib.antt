@@ -1,0 +1,4 @@
+pub mod Keys
+pub mod Linked
+pub mod Image
+pub mod Layout
