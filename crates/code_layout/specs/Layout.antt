@@ -32,7 +32,7 @@ entry_code v = code_of_items (entry_items v.entry v.known)
 
 abbrev pub added_length : List Added → ℕ
 added_length [] = 0
-added_length (a ∷ as) = length a.code.bytes + added_length as
+added_length (a ∷ more) = length a.code.bytes + added_length more
 
 abbrev pub code_length : LayoutView → ℕ
 code_length v = length (entry_code v).bytes + added_length v.added
@@ -42,7 +42,7 @@ code_length v = length (entry_code v).bytes + added_length v.added
 -- the address of the fragment of a start
 abbrev pub added_at : ℕ → List Added → ℕ → ℕ
 added_at at [] y = 0
-added_at at (a ∷ as) y = if a.start == y then at else added_at (at + length a.code.bytes) as y
+added_at at (a ∷ more) y = if a.start == y then at else added_at (at + length a.code.bytes) more y
 
 -- a word put over four bytes at an offset
 abbrev pub with_word : ℕ → ℕ → List ℕ → List ℕ
@@ -62,7 +62,7 @@ filled_code address at c = filled address at c.fixes c.bytes
 
 abbrev pub filled_from : (ℕ → ℕ) → ℕ → List Added → List ℕ
 filled_from address at [] = []
-filled_from address at (a ∷ as) = filled_code address at a.code ++ filled_from address (at + length a.code.bytes) as
+filled_from address at (a ∷ more) = filled_code address at a.code ++ filled_from address (at + length a.code.bytes) more
 
 -- where the first fragment stands
 abbrev pub added_from : LayoutView → ℕ
@@ -78,16 +78,16 @@ layout_code v =
 
 -- a fragment of this start was added
 abbrev pub is_added : List Added → ℕ → Bool
-is_added as y = is_among (map (λ (a : Added). a.start) as) y
+is_added list y = is_among (map (λ (a : Added). a.start) list) y
 
 -- each fix lies in the fragment, and where it goes to a block, that one was added
-pub record IsAddedFix (as : List Added) (count : ℕ) (f : Fix) : Type 0 where
+pub record IsAddedFix (list : List Added) (count : ℕ) (f : Fix) : Type 0 where
   pub inside : f.at + 4 ≤ count
-  pub there : f.known ≡ true → is_added as f.target ≡ true
+  pub there : f.known ≡ true → is_added list f.target ≡ true
 
 abbrev pub AreAdded : List Added → List Added → Type 0
-AreAdded as [] = Unit {0}
-AreAdded as (b ∷ bs) = All (IsAddedFix as (length b.code.bytes)) b.code.fixes × AreAdded as bs
+AreAdded list [] = Unit {0}
+AreAdded list (b ∷ bs) = All (IsAddedFix list (length b.code.bytes)) b.code.fixes × AreAdded list bs
 
 -- a layout whose file can be written: each known target was added, the entry exactly where it is known
 pub record IsWhole (v : LayoutView) : Type 0 where
