@@ -45,6 +45,7 @@ fn copies_and_constants_go(rt: HostRuntime) -> Result<(), Fail> {
     let alloc = rt.alloc();
     let block = some_block(alloc)?;
     assert!(rt; check_block(&block));
+    assert!(rt; block.lines.len() <= 2048);
     let folded = fold(alloc, &block)?;
     assert!(rt; check_block(&folded));
     let list = folded.lines.into_list();
@@ -60,7 +61,9 @@ fn copies_and_constants_go(rt: HostRuntime) -> Result<(), Fail> {
 #[test]
 fn outs_and_exit_are_replaced(rt: HostRuntime) -> Result<(), Fail> {
     let alloc = rt.alloc();
-    let folded = fold(alloc, &some_block(alloc)?)?;
+    let block = some_block(alloc)?;
+    assert!(rt; block.lines.len() <= 2048);
+    let folded = fold(alloc, &block)?;
     assert!(rt; matches!(folded.outs[0], Val::Param(0)));
     assert!(rt; matches!(folded.outs[1], Val::Num(0)));
     assert!(rt; matches!(folded.outs[2], Val::Line(4)));

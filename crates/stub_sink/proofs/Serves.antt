@@ -86,7 +86,7 @@ split_holds law b on live unknown c f =
     let fall : ℕ → Bool = fall_of unknown b in
     let body : ℕ → Bool = body_of live unknown b in
     let least : IsLeast b.lines (λ j. roots_of live b j || (fall j && is_load (get_or b.lines j Gone))) body = law b _ c in
-    let stores : (j : ℕ) → is_store (get_or b.lines j Gone) ≡ true → body j ≡ true = λ j e. least.has j (or_left _ _ (or_left _ _ e)) in
+    let stores : (j : ℕ) → is_store (get_or b.lines j Gone) ≡ true → body j ≡ true = λ j e. least.has j (or_left _ _ (or_left _ _ (or_left _ _ e))) in
     record {
       runs = on_closed on body 0 b.lines f.lines least.closed (has_stores body 0 b.lines (λ k j q e. let z : k ≡ j = omega arith in stores j (ap (λ i. is_store (get_or b.lines i Gone)) (sym z) ∙ e)));
       exit = vals_on on body (exit_vals b.exit) f.exit (vals_in body (exit_vals b.exit) (λ j e. least.has j (or_left _ _ (or_left _ _ (or_right (is_store (get_or b.lines j Gone)) _ e)))));

@@ -1,0 +1,4 @@
+pub mod Bits
+pub mod Living
+pub mod Numbers
+pub mod Feeding

@@ -1,0 +1,12 @@
+//! Live registers: which virtual registers a block must find in their homes. specs/Rows has the row of a block, specs/Live the live sets of
+//! rows, and specs/Laws what they are worth.
+#![tactic(auto)]
+
+mod law;
+mod row;
+#[cfg(test)]
+mod tests;
+
+pub use law::{fragment_splits, live_is_walked};
+pub use row::{LiveRow, Starts, row_of};
+pub use ssa_form::Block;
