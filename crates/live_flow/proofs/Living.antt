@@ -68,7 +68,7 @@ any_among sets v (k ∷ ks) j h e = ⊎_elim
     (λ in'. or_right (sets k v) _ (any_among sets v ks j in' e))
     h
 
-any_of : (sets : ℕ → ℕ → Bool) (v : ℕ) (js : List ℕ) → any_live sets v js ≡ true → (j : ℕ) × IsAmong js j × (sets j v ≡ true)
+pub any_of : (sets : ℕ → ℕ → Bool) (v : ℕ) (js : List ℕ) → any_live sets v js ≡ true → (j : ℕ) × IsAmong js j × (sets j v ≡ true)
 any_of sets v [] e = absurd (cc)
 any_of sets v (k ∷ ks) e = ⊎_elim
     (λ l. (k, inl refl, l))
@@ -88,7 +88,7 @@ module _ (rows : List LiveRow) where
       (λ r. let w = any_of (live_after n rows) v _ (and_right (hands rows i v) _ r) in There n i w.0 (and_left _ _ r) w.1 (walks n w.0 v w.2))
       (either_one (live_after n rows i v) _ e)
 
-  start_kept : (n i v : ℕ) → needed_at (row_at rows i) v ≡ true → live_after n rows i v ≡ true
+  pub start_kept : (n i v : ℕ) → needed_at (row_at rows i) v ≡ true → live_after n rows i v ≡ true
   start_kept zero i v e = e
   start_kept (suc n) i v e = or_left _ _ (start_kept n i v e)
 
@@ -100,7 +100,7 @@ module _ (rows : List LiveRow) where
   abbrev IsStable : (v n : ℕ) → Type 0
   IsStable v n = (i : ℕ) → live_after (suc n) rows i v ≡ true → live_after n rows i v ≡ true
 
-  none_past : (rs : List LiveRow) (i : ℕ) → length rs ≤ i → get_or rs i no_row ≡ no_row
+  pub none_past : (rs : List LiveRow) (i : ℕ) → length rs ≤ i → get_or rs i no_row ≡ no_row
   none_past [] i h = refl
   none_past (r ∷ rs) zero h = absurd (omega arith)
   none_past (r ∷ rs) (suc i) h = none_past rs i (omega arith)

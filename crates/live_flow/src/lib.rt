@@ -3,10 +3,13 @@
 #![tactic(auto)]
 
 mod law;
+mod links;
 mod row;
+mod sets;
 #[cfg(test)]
 mod tests;
 
 pub use law::{fragment_splits, live_is_walked};
 pub use row::{LiveRow, Starts, row_of};
+pub use sets::live;
 pub use ssa_form::Block;
