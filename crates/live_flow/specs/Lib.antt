@@ -1,0 +1,5 @@
+pub mod Live
+pub mod Rows
+pub mod Laws
+pub mod Links
+pub mod Growing

@@ -1,0 +1,4 @@
+pub mod Serves
+pub mod Listing
+pub mod Sets
+pub mod Bodies
