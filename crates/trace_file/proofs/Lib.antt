@@ -7,3 +7,4 @@ pub mod Search
 pub mod Records
 pub mod Result
 pub mod ReadBack
+pub mod Without

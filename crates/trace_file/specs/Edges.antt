@@ -1,5 +1,5 @@
 -- Control-flow edges, and lists of them in order.
-use Rattle.std.specs.Prelude.{◌≡◌, ℕ, ◌≤◌, ◌↔◌, ◌⊎◌, Bool, true, ◌||◌, ◌&&◌, nat_eq, nat_lt, if◌then◌else◌, List, [], ◌∷◌, length, sum_by, All, Contains}
+use Rattle.std.specs.Prelude.{◌≡◌, ℕ, ◌≤◌, ◌↔◌, ◌⊎◌, Bool, true, false, ◌||◌, ◌&&◌, nat_eq, nat_lt, if◌then◌else◌, List, [], ◌∷◌, length, sum_by, All, Contains}
 use Rattle.trace_file.specs.declared.limits.TheConstants.{EDGE_LIMIT}
 
 -- the address of a transfer, the site, and the address that it led to, the target
@@ -49,6 +49,20 @@ collected (e ∷ more) es = collected more (with_edge e es)
 abbrev pub in_order : List Edge → List Edge
 in_order es = collected es []
 
+-- two edges are the same
+abbrev pub same : Edge → Edge → Bool
+same a b = nat_eq a.0 b.0 && nat_eq a.1 b.1
+
+-- whether the list has the edge
+abbrev pub has : Edge → List Edge → Bool
+has e [] = false
+has e (a ∷ es) = same a e || has e es
+
+-- the edges of a list that the first one does not have
+abbrev pub without : List Edge → List Edge → List Edge
+without gone [] = []
+without gone (e ∷ es) = if has e gone then without gone es else (e ∷ without gone es)
+
 -- the union of sets
 abbrev pub union_of : List (List Edge) → List Edge
 union_of [] = []
@@ -73,6 +87,10 @@ pub record IsSetOf (Holds : Edge → Type 0) (made : List Edge) : Type 0 where
 abbrev pub IsInBoth : List Edge → List Edge → List Edge → Edge → Type 0
 IsInBoth left right all e =
     (Contains all e → Contains left e ⊎ Contains right e) × (Contains left e ⊎ Contains right e → Contains all e)
+
+-- an edge is in the rest exactly where it is in the list and not among those that are gone
+abbrev pub IsInRest : List Edge → List Edge → List Edge → Edge → Type 0
+IsInRest list gone rest e = Contains rest e ↔ (Contains list e × (Contains gone e → ⊥))
 
 -- an edge is in one of the sets
 abbrev pub IsInSome : List (List Edge) → Edge → Type 0

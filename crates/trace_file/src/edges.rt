@@ -1,4 +1,5 @@
 //! Sets of edges.
+use crate::difference::difference;
 use crate::order::{is_before, merged};
 use std::alloc::{AllocError, Global};
 use std::marker::Model;
@@ -25,7 +26,7 @@ impl Model for Edges {
 impl Edges {
     ghost use Rattle.std.specs.Prelude.{◌≡◌, ℕ, ◌+◌, ◌<◌, ◌≤◌, ◌↔◌, IsTrue, IfOk, Some, List, [], length, slice_get, Contains};
     ghost use Rattle.trace_file.specs.declared.limits.TheConstants.{EDGE_LIMIT};
-    ghost use Rattle.trace_file.specs.Edges.{Edge, IsEdges, merge, IsInBoth};
+    ghost use Rattle.trace_file.specs.Edges.{Edge, IsEdges, merge, without, IsInBoth, IsInRest};
 
     /// No edges. It takes no memory.
     pub fn new(alloc: Global) -> Self
@@ -99,6 +100,18 @@ impl Edges {
     {
         let alloc = *self.list.allocator();
         let list = merged(alloc, &self.list, &other.list)?;
+        Ok(Edges { list })
+    }
+    /// The edges of these that `gone` does not have, in one pass.
+    ///
+    /// Errors: only for want of memory.
+    pub fn without(&self, gone: &Edges) -> Result<Edges, AllocError>
+        ensures value { IfOk result (λ rest. rest ≡ without gone.now self.now) }
+        ensures members { IfOk result (λ rest. (e : Edge) → IsInRest self.now gone.now rest e) }
+        ensures edges { IfOk result IsEdges }
+    {
+        let alloc = *self.list.allocator();
+        let list = difference(alloc, &self.list, &gone.list)?;
         Ok(Edges { list })
     }
 }

@@ -2,6 +2,7 @@
 #![tactic(auto)]
 
 mod check;
+mod difference;
 mod edges;
 mod error;
 mod field;

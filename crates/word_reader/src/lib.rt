@@ -13,6 +13,7 @@ pub use limits::{
     ARGUMENT_BYTES_LIMIT, ARGUMENT_LIMIT, DEFAULT_STEPS, DEMO_LIMIT, DIGIT_LIMIT, FIRST_NAME,
     FIRST_NAME_BEHIND_STEPS, GUEST_BYTES, NAME_LIMIT, TRACE_LIMIT,
 };
+pub use number::read_digits;
 pub use parts::first_name;
 
 #[cfg(test)]

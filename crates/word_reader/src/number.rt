@@ -1,5 +1,5 @@
 //! Numbers in words.
-ghost use Rattle.std.specs.Prelude.{◌≡◌, ◌≤◌, ◌<◌, ◌^◌, length, true};
+ghost use Rattle.std.specs.Prelude.{◌≡◌, ◌≤◌, ◌<◌, ◌^◌, length, true, IfSome};
 ghost use Rattle.word_reader.specs.declared.limits.TheConstants.{DIGIT_LIMIT};
 ghost use Rattle.word_reader.specs.Numbers.{is_digit, are_digits, number_of_digits, number_in};
 
@@ -24,7 +24,8 @@ fn are_all_digits(bytes: &[u8]) -> bool
 fn digits_number(bytes: &[u8]) -> u64
     requires digits { are_digits bytes.now ≡ true }
     requires few { length bytes.now ≤ DIGIT_LIMIT }
-    ensures { result ≡ number_of_digits bytes.now }
+    ensures value { result ≡ number_of_digits bytes.now }
+    ensures small { result < 10 ^ length bytes.now }
 {
     let mut number: u64 = 0;
     for byte in bytes {
@@ -33,12 +34,12 @@ fn digits_number(bytes: &[u8]) -> u64
     number
 }
 
-/// The number that a word writes in 1 to `most` decimal digits, and `None` where it writes none.
-pub fn read_number(word: &str, most: usize) -> Option<u64>
+/// The number that bytes write in 1 to `most` decimal digits, and `None` where they write none.
+pub fn read_digits(bytes: &[u8], most: usize) -> Option<u64>
     requires { most ≤ DIGIT_LIMIT }
-    ensures { result ≡ number_in most word.now }
+    ensures value { result ≡ number_in most bytes.now }
+    ensures small { IfSome result (λ number. number < 10 ^ most) }
 {
-    let bytes = word.as_bytes();
     if bytes.is_empty() || bytes.len() > most {
         return None;
     }
@@ -47,4 +48,12 @@ pub fn read_number(word: &str, most: usize) -> Option<u64>
     } else {
         None
     }
+}
+
+/// The number that a word writes in 1 to `most` decimal digits, and `None` where it writes none.
+pub fn read_number(word: &str, most: usize) -> Option<u64>
+    requires { most ≤ DIGIT_LIMIT }
+    ensures { result ≡ number_in most word.now }
+{
+    read_digits(word.as_bytes(), most)
 }

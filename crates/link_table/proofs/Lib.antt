@@ -1,0 +1,9 @@
+pub mod Counts
+pub mod Turns
+pub mod Kept
+pub mod Shown
+pub mod Linked
+pub mod Dropped
+pub mod Walked
+pub mod Same
+pub mod Named

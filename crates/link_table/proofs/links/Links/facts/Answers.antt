@@ -1,0 +1,6 @@
+use Rattle.std.proofs.Common.{◌≡◌, ℕ, ◌+◌, ◌<◌, ◌≤◌, ◌^◌, length, sym, subst, ap, refl, ◌∙◌, arith, get_or, true, false, List, [], ◌∷◌, ◌++◌, eqb, rules}
+use Rattle.link_table.proofs.Named.{crossed}
+use Rattle.link_table.proofs.links.Links.facts.Goals as goal
+
+pub returns : goal.returns
+returns c = crossed c.self.inside.rows c.self.inside.columns c.self.inside.alive.items c.self.inside.values.items c.self.inside.used c.self.inside.live c.args.self.now c.self.view_is c.self.invariant c.facts.ensures c.facts-2.ensures
