@@ -1,6 +1,7 @@
 -- A system call as a step.
 use Rattle.std.proofs.Common.{◌≡◌, ℕ, true, List, [], None, Ok, Err, refl, sym, ◌∙◌, ap, subst, arith, IsTrue, ◌⊎◌, inl, inr}
 use Rattle.br_word.specs.declared.types.GuestFault.{GuestFault}
+use Rattle.br_word.specs.Memory.{Region}
 use Rattle.br_word.specs.State.{State, RunState, Running, Exited, Faulted}
 use Rattle.ia_inst.specs.System.{StepResult, On, Bad, system}
 use Rattle.ia_inst.specs.Step.{settled}
@@ -13,7 +14,7 @@ use Rattle.guest_sys.specs.declared.answers.SysError.{SysError}
 use Rattle.guest_sys.specs.declared.answers.SysError.TheVariants.{Input, Out, Report, Memory}
 use Rattle.br_outside.specs.Streams.{Streams}
 use Rattle.guest_sys.specs.Machine.{machine, state_of, fed}
-use Rattle.guest_sys.specs.Calls.{asks, takes_memory, after_call, spare, Passes, Does, InputFails, SinkFails, MemoryFails, FailsAt, CallGives, Calls}
+use Rattle.guest_sys.specs.Calls.{asks, takes_memory, after_call, spare, Passes, Does, InputFails, SinkFails, MemoryFails, FailsAt, LeavesRegions, CallGives, Calls}
 use Rattle.guest_sys.specs.Calls as calls
 use Rattle.guest_run.specs.declared.stop.Stop as answer
 use Rattle.guest_run.specs.declared.stop.Stop.TheVariants as answers
@@ -95,11 +96,19 @@ fails_at : (at : ℕ) (e : SysError) (left : List ℕ) (u : Cpu) (m : MemoryView
     → FailsAt e (fed left (state_of u m)) (settled w (fed left (state_of u m))) b a
     → FailsAt e (fed left (state_of (record u { eip = at }) m)) (settled w (fed left (state_of (record u { eip = at }) m))) b a
 fails_at at Input left u m b a w f = record { taken = f.taken; few = f.few; left = f.left; fails = f.fails; out = f.out; err = f.err }
-fails_at at Memory left u m b a w f = record { wanted = f.wanted; taken = f.taken; few = f.few; input = f.input; out = f.out; err = f.err }
+fails_at at Memory left u m b a (On t) f = record { wanted = f.wanted; taken = f.taken; few = f.few; input = f.input; out = f.out; err = f.err }
+fails_at at Memory left u m b a (Bad g) f = record { wanted = f.wanted; taken = f.taken; few = f.few; input = f.input; out = f.out; err = f.err }
 fails_at at Out left u m b a (On t) f = f
 fails_at at Out left u m b a (Bad g) f = f
 fails_at at Report left u m b a (On t) f = f
 fails_at at Report left u m b a (Bad g) f = f
+
+leaves_at : (at : ℕ) (e : SysError) (left : List ℕ) (u : Cpu) (m : MemoryView) (rs : List Region) → LeavesRegions e (fed left (state_of u m)) rs
+    → LeavesRegions e (fed left (state_of (record u { eip = at }) m)) rs
+leaves_at at Input left u m rs h = h
+leaves_at at Out left u m rs h = h
+leaves_at at Report left u m rs h = h
+leaves_at at Memory left u m rs h = h
 
 pub trap_done : (at : ℕ) (u v : Cpu) (m n : MemoryView) (i o e j p f : StreamView) (called : Called) → IsNoFault called
     → Calls (Ok called) (machine u m i o e) (machine v n j p f) → Trap at (Ok (stopped (stop_as called))) (machine u m i o e) (machine v n j p f)
@@ -128,9 +137,10 @@ trap_fails at u v m n i o e j p f x c =
       told = c.told;
       gives = subst P (sym (system_eip u.eip at s)) (record {
         trap = refl;
-        call = wants x s (after_call s) _ _ (system_silent u.eip s) c.gives.2;
+        call = wants x s (after_call s) _ _ (system_silent u.eip s) c.gives.3;
         cpu = ap (λ (w : Cpu). record w { eip = at }) c.gives.0;
         memory = c.gives.1;
-        streams = fails_at at x c.left u m _ _ (system u.eip s) c.gives.2;
+        regions = leaves_at at x c.left u m n.regions c.gives.2;
+        streams = fails_at at x c.left u m _ _ (system u.eip s) c.gives.3;
       });
     }

@@ -74,6 +74,7 @@ fails_at_budget c u v m n b a e steps edge live d =
         trap = d.gives.trap;
         call = d.gives.call;
         guest = ap (λ v. f v n) d.gives.cpu ∙ ap (λ n. f u n) d.gives.memory;
+        regions = d.gives.regions;
         streams = d.gives.streams;
       };
     }

@@ -2,13 +2,15 @@
 use Rattle.std.proofs.Common.{◌≡◌, ℕ, Bool, zero, suc, ◌+◌, ◌-◌, ◌≤◌, true, false, List, [], ◌++◌, drop, Option, Some, None, IfSome, Result, Ok, Err, refl, sym, ◌∙◌, ap, subst, arith}
 use Rattle.std.proofs.lemmas.List.{append-nil}
 use Rattle.br_word.specs.Words.{bit}
+use Rattle.br_word.specs.Memory.{Region}
 use Rattle.br_word.specs.State.{State, RunState, Running, Exited, Faulted}
 use Rattle.ia_inst.specs.System.{StepResult, On, Bad}
 use Rattle.ia_inst.specs.Step.{Found, NoCode, NoInst, There, found, step_result, step}
 use Rattle.br_outside.specs.Streams.{Streams, Tells}
 use Rattle.guest_sys.specs.declared.answers.SysError.{SysError}
+use Rattle.guest_sys.specs.declared.answers.SysError.TheVariants.{Input, Out, Report, Memory}
 use Rattle.guest_sys.specs.Machine.{fed, bare}
-use Rattle.guest_sys.specs.Calls.{spare, Passes}
+use Rattle.guest_sys.specs.Calls.{spare, Passes, LeavesRegions}
 use Rattle.run_model.specs.Edges.{Edge, is_transfer, edge_by, edge_at, edge_of, edges_from}
 use Rattle.run_model.specs.Run.{run}
 use Rattle.guest_run.specs.declared.stop.Stop as answer
@@ -164,6 +166,13 @@ steps_hold (suc n) g h edges a b live is w =
 
 -- ---- the next step fails
 
+-- what a call leaves in memory does not depend on what was written before
+leaves_bare : (e : SysError) (u : State) (rs : List Region) → LeavesRegions e (fed u.input (bare u)) rs → LeavesRegions e u rs
+leaves_bare Input u rs h = h
+leaves_bare Out u rs h = h
+leaves_bare Report u rs h = h
+leaves_bare Memory u rs h = h
+
 break_told : (e : SysError) (n : ℕ) (s : State) (left : List ℕ) (edges : List Edge) (g k h : GuestView) (a now b : Streams) → StepsTold n s edges g k a now → a.input.bytes ≡ Some left
     → StepCall (Err e) 0 k h now b → BreakTold e n s h a b
 break_told e n s left edges g k h a now b w told d =
@@ -175,7 +184,8 @@ break_told e n s left edges g k h a now b w told d =
     let Q : State → Type 0 = λ x. RunFailsAt e (shown u.out u.err u0) x a b in
     record {
       running = at.running;
-      state = ap (λ (x : GuestView). x.state) failed.guest ∙ w.state;
+      state = ap (λ (x : GuestView). x.state) failed.guest ∙ ap (λ (x : State). let y : State = record x { regions = h.state.regions } in y) w.state;
+      regions = leaves_bare e u h.state.regions failed.regions;
       streams = subst P (sym (shown_bare u)) (subst Q (sym (step_shown u.out u.err u0 0))
           (fails_later e u u0 (step u0 0) a now b at.passes (fails_now e u0 (step u0 0) now b at.tells refl refl failed.streams)));
     }
@@ -282,7 +292,7 @@ run_breaks e n g h a b live is w = record {
 
     go : (o : Option (List ℕ)) → IfSome o (λ left. BreakTold e w.taken (fed left g.state) h a b) → IfSome o (λ left. RunFailed e n (fed left g.state) g h a b)
     go None t = tt
-    go (Some left) t = record { done = w.taken; within = w.within; running = t.running; state = t.state; steps = come.steps; streams = t.streams }
+    go (Some left) t = record { done = w.taken; within = w.within; running = t.running; state = t.state; regions = t.regions; steps = come.steps; streams = t.streams }
 
 -- whatever a run comes to
 pub run_holds : (r : Result answer.Stop SysError) (n : ℕ) (g h : GuestView) (a b : Streams) → g.live ≡ true → g.state ≡ bare g.state → BoundedRun r n g h a b → Runs r n g h a b

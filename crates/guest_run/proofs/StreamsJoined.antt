@@ -1,14 +1,14 @@
 -- What calls of streams do, one after another.
-use Rattle.std.proofs.Common.{◌≡◌, ℕ, ◌+◌, List, [], ◌∷◌, ◌++◌, length, take, Option, Some, None, IfSome, refl, sym, ◌∙◌, ap, subst, arith, append_assoc, length-append, option_map, IsTrue}
-use Rattle.std.proofs.Math.Seq.{take-append-add}
+use Rattle.std.proofs.Common.{◌≡◌, ℕ, ◌+◌, List, [], ◌∷◌, ◌++◌, length, take, drop, Option, Some, None, IfSome, refl, sym, ◌∙◌, ap, subst, arith, append_assoc, length-append, option_map, IsTrue}
+use Rattle.std.proofs.Math.Seq.{drop-append-add}
 use Rattle.std.proofs.lemmas.List.{append-nil}
 use Rattle.br_word.specs.State.{State}
 use Rattle.br_outside.specs.Outside.{StreamView}
 use Rattle.br_outside.specs.Streams.{Streams, Steady, Fails, Tells, WasGiven, Leaves, Gains}
 use Rattle.guest_sys.specs.declared.answers.SysError.{SysError}
 use Rattle.guest_sys.specs.declared.answers.SysError.TheVariants.{Input, Out, Report, Memory}
-use Rattle.guest_sys.specs.Calls.{Passes, Unwritten, FailsAt}
-use Rattle.guest_run.specs.Guest.{PartGiven, Unchanged, RunFailsAt, AllSteady, OneFails}
+use Rattle.guest_sys.specs.Calls.{Passes, GainsFront, FailsAt}
+use Rattle.guest_run.specs.Guest.{PartGiven, PartGained, RunFailsAt, AllSteady, OneFails}
 use Rattle.guest_run.proofs.EarlierBytes.{shown}
 
 -- ---- no call
@@ -111,20 +111,19 @@ same_passes t a told out err = record { input = leaves_same a.input t.input told
 part_then : (a b c : StreamView) (t u v : List ℕ) → WasGiven t a b → PartGiven u v b c → PartGiven (t ++ u) (t ++ v) a c
 part_then a b c t u v p q =
     let P : List ℕ → Type 0 = λ x. WasGiven x a c in
-    record {
-      written = length t + q.written;
-      least = omega (arith, q.least, length-append t u);
-      given = subst P (sym (take-append-add t v q.written)) (given_then a b c t (take q.written v) p q.given);
-    }
+    let rest : drop (length (t ++ u)) (t ++ v) ≡ drop (length u) v = ap (λ n. drop n (t ++ v)) (length-append t u) ∙ drop-append-add t v (length u) in
+    let whole : (t ++ u) ++ take q.more (drop (length (t ++ u)) (t ++ v)) ≡ t ++ (u ++ take q.more (drop (length u) v)) =
+        ap (λ x. (t ++ u) ++ take q.more x) rest ∙ append_assoc t u (take q.more (drop (length u) v)) in
+    record { more = q.more; given = subst P (sym whole) (given_then a b c t (u ++ take q.more (drop (length u) v)) p q.given) }
 
-unchanged_then : (a b c : StreamView) (t u : List ℕ) → Gains t a b → Unchanged u b c → Unchanged (t ++ u) a c
-unchanged_then a b c t u p q = record { given = given_then a b c t u p.bytes q.given; steady = steady_then a b c p.steady q.steady }
+gained_then : (a b c : StreamView) (t u v : List ℕ) → Gains t a b → PartGained u v b c → PartGained (t ++ u) (t ++ v) a c
+gained_then a b c t u v p q = record { part = part_then a b c t u v p.bytes q.part; steady = steady_then a b c p.steady q.steady }
 
 pub fails_later : (e : SysError) (t u v : State) (a b c : Streams) → Passes t 0 a b → RunFailsAt e u v b c → RunFailsAt e (shown t.out t.err u) (shown t.out t.err v) a c
 fails_later Input t u v a b c p f = ((f.0.0, f.0.1, left_then a.input.bytes b.input.bytes c.input _ _ p.input.bytes f.0.2), fails_then a.input b.input c.input p.input.steady f.1, gains_then a.out b.out c.out _ _ p.out f.2, gains_then a.err b.err c.err _ _ p.err f.3)
 fails_later Out t u v a b c p f = (part_then a.out b.out c.out t.out u.out v.out p.out.bytes f.0, fails_then a.out b.out c.out p.out.steady f.1, leaves_then a.input b.input c.input _ _ p.input f.2, gains_then a.err b.err c.err _ _ p.err f.3)
 fails_later Report t u v a b c p f = (part_then a.err b.err c.err t.err u.err v.err p.err.bytes f.0, fails_then a.err b.err c.err p.err.steady f.1, leaves_then a.input b.input c.input _ _ p.input f.2, gains_then a.out b.out c.out _ _ p.out f.3)
-fails_later Memory t u v a b c p f = ((f.0.0, f.0.1, leaves_then a.input b.input c.input _ _ p.input f.0.2), unchanged_then a.out b.out c.out _ _ p.out f.1, unchanged_then a.err b.err c.err _ _ p.err f.2)
+fails_later Memory t u v a b c p f = ((f.0.0, f.0.1, leaves_then a.input b.input c.input _ _ p.input f.0.2), gained_then a.out b.out c.out _ _ _ p.out f.1, gained_then a.err b.err c.err _ _ _ p.err f.2)
 
 pub one_then : (x : SysError) (a b c : Streams) → AllSteady a b → OneFails x b c → OneFails x a c
 one_then Input a b c s f = (fails_then a.input b.input c.input s.input f.0, steady_then a.out b.out c.out s.out f.1, steady_then a.err b.err c.err s.err f.2)
@@ -143,17 +142,18 @@ gains_is x y m none e = let P : StreamView → Type 0 = λ y. Gains m x y in sub
 leaves_is : (x y : StreamView) (l : List ℕ) → Tells l x → y ≡ x → Leaves l x y
 leaves_is x y l told e = let P : StreamView → Type 0 = λ y. Leaves l x y in subst P (sym e) (leaves_same x l told)
 
-unchanged_is : (x y : StreamView) (m : List ℕ) → m ≡ [] → Unwritten x y → Unchanged m x y
-unchanged_is x y m none u = record { given = u.bytes ∙ (gains_none x m none).bytes; steady = u.steady }
+-- a front part, where nothing was written before
+part_is : (x y : StreamView) (m all : List ℕ) (n : ℕ) → m ≡ [] → WasGiven (take n all) x y → PartGiven m all x y
+part_is x y m all n none given = let P : List ℕ → Type 0 = λ m. PartGiven m all x y in subst P (sym none) (record { more = n; given = given })
 
-no_length : (m : List ℕ) → m ≡ [] → length m ≡ 0
-no_length m e = ap length e
+gained_is : (x y : StreamView) (m all : List ℕ) → m ≡ [] → GainsFront all x y → PartGained m all x y
+gained_is x y m all none u = record { part = part_is x y m all u.written none u.given; steady = u.steady }
 
 pub fails_now : (e : SysError) (u v : State) (a c : Streams) → Tells u.input a.input → u.out ≡ [] → u.err ≡ [] → FailsAt e u v a c → RunFailsAt e u v a c
 fails_now Input u v a c told out err f = ((f.taken, f.few, f.left), f.fails, gains_is a.out c.out u.out out f.out, gains_is a.err c.err u.err err f.err)
-fails_now Out u v a c told out err f = (record { written = f.0.written; least = omega (arith, no_length u.out out); given = f.0.given }, f.0.fails, leaves_is a.input c.input u.input told f.1, gains_is a.err c.err u.err err f.2)
-fails_now Report u v a c told out err f = (record { written = f.0.written; least = omega (arith, no_length u.err err); given = f.0.given }, f.0.fails, leaves_is a.input c.input u.input told f.1, gains_is a.out c.out u.out out f.2)
-fails_now Memory u v a c told out err f = ((f.taken, f.few, f.input), unchanged_is a.out c.out u.out out f.out, unchanged_is a.err c.err u.err err f.err)
+fails_now Out u v a c told out err f = (part_is a.out c.out u.out v.out f.0.written out f.0.given, f.0.fails, leaves_is a.input c.input u.input told f.1, gains_is a.err c.err u.err err f.2)
+fails_now Report u v a c told out err f = (part_is a.err c.err u.err v.err f.0.written err f.0.given, f.0.fails, leaves_is a.input c.input u.input told f.1, gains_is a.out c.out u.out out f.2)
+fails_now Memory u v a c told out err f = ((f.taken, f.few, f.input), gained_is a.out c.out u.out v.out out f.out, gained_is a.err c.err u.err v.err err f.err)
 
 pub one_now : (e : SysError) (u v : State) (a c : Streams) → FailsAt e u v a c → OneFails e a c
 one_now Input u v a c f = (f.fails, steady_is a.out c.out f.out, steady_is a.err c.err f.err)

@@ -8,7 +8,7 @@ use Rattle.ia_inst.specs.Step.{Found, NoCode, NoInst, There, result_at, settled,
 use Rattle.guest_sys.specs.declared.answers.SysError.{SysError}
 use Rattle.br_outside.specs.Streams.{Tells}
 use Rattle.guest_sys.specs.Machine.{Machine, state_of, fed, bare}
-use Rattle.guest_sys.specs.Calls.{takes_memory, spare, Passes, FailsAt}
+use Rattle.guest_sys.specs.Calls.{takes_memory, spare, Passes, FailsAt, LeavesRegions}
 use Rattle.guest_run.specs.declared.advance.Advanced.{Advanced}
 use Rattle.guest_run.specs.declared.advance.Code.{Code}
 use Rattle.guest_run.specs.declared.advance.Code.TheVariants as code
@@ -45,7 +45,9 @@ pub record AdvanceFails (e : SysError) (s : State) (x : Expected) (old new : Mac
   pub trap : IsTrue x.trap
   pub call : IsTrue (takes_memory s)
   pub cpu : new.cpu ≡ old.cpu
-  pub memory : new.memory ≡ old.memory
+  -- as before, but for the regions
+  pub memory : new.memory ≡ record (old.memory) { regions = new.memory.regions }
+  pub regions : LeavesRegions e s new.memory.regions
   pub streams : FailsAt e s x.after old.streams new.streams
 
 -- by the answer

@@ -5,7 +5,7 @@ use Rattle.ia_inst.specs.Step.{step}
 use Rattle.br_outside.specs.Streams.{Streams}
 use Rattle.guest_sys.specs.declared.answers.SysError.{SysError}
 use Rattle.guest_sys.specs.Machine.{fed, bare}
-use Rattle.guest_sys.specs.Calls.{Passes}
+use Rattle.guest_sys.specs.Calls.{Passes, LeavesRegions}
 use Rattle.run_model.specs.Edges.{Edge, edges_from}
 use Rattle.run_model.specs.Run.{run}
 use Rattle.guest_run.specs.declared.stop.Stop.{Stop}
@@ -79,7 +79,9 @@ pub record StepsCome (n : ℕ) (edges : List Edge) (g h : GuestView) (before aft
 -- the step after n steps from s failed
 pub record BreakTold (e : SysError) (n : ℕ) (s : State) (h : GuestView) (before after : Streams) : Type 0 where
   pub running : (run n s []).stop ≡ Running
-  pub state : h.state ≡ bare (run n s [])
+  -- as before that step, but for the regions
+  pub state : h.state ≡ bare (record (run n s []) { regions = h.state.regions })
+  pub regions : LeavesRegions e (run n s []) h.state.regions
   pub streams : RunFailsAt e (run n s []) (step (run n s []) 0) before after
 
 -- the step after n steps failed: no count of a fault has changed but that of the object of the error

@@ -1,5 +1,5 @@
 -- What a guest is seen as, and what a step and a run do to it and to its streams.
-use Rattle.std.specs.Prelude.{◌≡◌, ℕ, zero, suc, ◌+◌, ◌<◌, ◌≤◌, Bool, true, false, IsTrue, List, [], ◌∷◌, take, drop, length, Option, Some, None, IfSome, Result, Ok, Err}
+use Rattle.std.specs.Prelude.{◌≡◌, ℕ, zero, suc, ◌+◌, ◌<◌, ◌≤◌, Bool, true, false, IsTrue, List, [], ◌∷◌, ◌++◌, take, drop, length, Option, Some, None, IfSome, Result, Ok, Err}
 use Rattle.br_word.specs.Words.{bit}
 use Rattle.br_word.specs.State.{State, RunState, Running, Exited, Faulted}
 use Rattle.ia_inst.specs.declared.inst.Inst.{Inst}
@@ -12,7 +12,7 @@ use Rattle.br_outside.specs.Streams.{Streams, Steady, Fails, Tells, HasLeft, Was
 use Rattle.guest_mem.specs.View.{MemoryView}
 use Rattle.ia_meaning.specs.declared.cpu.Cpu.{Cpu}
 use Rattle.guest_sys.specs.Machine.{state_of, fed, bare}
-use Rattle.guest_sys.specs.Calls.{asks, takes_memory, spare, Passes, FailsAt}
+use Rattle.guest_sys.specs.Calls.{asks, takes_memory, spare, Passes, FailsAt, LeavesRegions}
 use Rattle.guest_run.specs.declared.stop.Stop as answer
 use Rattle.guest_run.specs.declared.stop.Stop.TheVariants as answers
 use Rattle.run_model.specs.Edges.{Edge, edge_of}
@@ -126,7 +126,9 @@ pub record StepFailed (e : SysError) (s : State) (c : ℕ) (g h : GuestView) (be
   pub running : s.stop ≡ Running
   pub trap : IsTrue (traps s)
   pub call : IsTrue (takes_memory s)
-  pub guest : h ≡ record g { live = false }
+  -- as before, but for the regions
+  pub guest : h ≡ record g { live = false; state = record (g.state) { regions = h.state.regions } }
+  pub regions : LeavesRegions e s h.state.regions
   pub streams : FailsAt e s (step s c) before after
 
 -- a guest that has stopped takes no step
@@ -189,13 +191,12 @@ pub record RunDone (result : answer.Stop) (n : ℕ) (s : State) (g h : GuestView
 
 -- a sink was given what u has written and a front part of what v has more
 pub record PartGiven (first all : List ℕ) (old new : StreamView) : Type 0 where
-  pub written : ℕ
-  pub least : length first ≤ written
-  pub given : WasGiven (take written all) old new
+  pub more : ℕ
+  pub given : WasGiven (first ++ take more (drop (length first) all)) old new
 
--- a sink was given these bytes, and is steady
-pub record Unchanged (bytes : List ℕ) (old new : StreamView) : Type 0 where
-  pub given : WasGiven bytes old new
+-- the same of a sink that did not fail
+pub record PartGained (first all : List ℕ) (old new : StreamView) : Type 0 where
+  pub part : PartGiven first all old new
   pub steady : Steady old new
 
 -- a run failed in the step from u to v
@@ -207,14 +208,16 @@ RunFailsAt Out u v before after = PartGiven u.out v.out before.out after.out × 
 RunFailsAt Report u v before after = PartGiven u.err v.err before.err after.err × Fails before.err after.err
     × Leaves u.input before.input after.input × Gains u.out before.out after.out
 RunFailsAt Memory u v before after = ((n : ℕ) × (n ≤ asks u) × Leaves (drop n u.input) before.input after.input)
-    × Unchanged u.out before.out after.out × Unchanged u.err before.err after.err
+    × PartGained u.out v.out before.out after.out × PartGained u.err v.err before.err after.err
 
 -- the step after the first `done` steps failed
 pub record RunFailed (e : SysError) (n : ℕ) (s : State) (g h : GuestView) (before after : Streams) : Type 0 where
   pub done : ℕ
   pub within : done < n
   pub running : (run done s []).stop ≡ Running
-  pub state : h.state ≡ bare (run done s [])
+  -- as before that step, but for the regions
+  pub state : h.state ≡ bare (record (run done s []) { regions = h.state.regions })
+  pub regions : LeavesRegions e (run done s []) h.state.regions
   pub steps : h.steps ≡ g.steps + done
   pub streams : RunFailsAt e (run done s []) (step (run done s []) 0) before after
 

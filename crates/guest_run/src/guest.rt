@@ -150,8 +150,8 @@ impl Guest {
     ///
     /// Errors come only where int 0x80 stands at eip and eax is 3, 4 or 45: `Input`, `Out` and
     /// `Report` where that object failed, `Memory` where memory ran out. The guest is then as before,
-    /// but it is not live any more, and a front part of the bytes of the call may have been taken or
-    /// written.
+    /// but it is not live any more, a front part of the bytes of the call may have been taken or
+    /// written, and after `Input` the memory of the guest may hold bytes that came, at ecx.
     ///
     /// `Input`, `Out` and `Report` leave the counts of faults of the other objects as they were, and every
     /// other answer those of all.
@@ -199,8 +199,8 @@ impl Guest {
     /// it has left they are the first steps of the run that the definition gives.
     ///
     /// Errors are those of the step that failed. The guest is then as before that step, but it is not
-    /// live any more. `Input`, `Out` and `Report` leave the counts of faults of the other objects as they
-    /// were, and every other answer those of all.
+    /// live any more, and after `Input` its memory may hold bytes that came. `Input`, `Out` and `Report`
+    /// leave the counts of faults of the other objects as they were, and every other answer those of all.
     pub fn run<I: Source, O: Sink, E: Sink>(
         &mut self,
         budget: u64,

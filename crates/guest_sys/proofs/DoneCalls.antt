@@ -16,7 +16,7 @@ use Rattle.guest_sys.specs.declared.answers.SysError.{SysError}
 use Rattle.guest_sys.specs.declared.answers.SysError.TheVariants.{Input, Out, Report, Memory}
 use Rattle.br_outside.specs.Streams.{Tells, Leaves, Gains}
 use Rattle.guest_sys.specs.Machine.{Machine, machine, state_of, fed, bare}
-use Rattle.guest_sys.specs.Calls.{asks, takes_memory, after_call, answer_of, Unwritten, CallGives, Calls}
+use Rattle.guest_sys.specs.Calls.{asks, takes_memory, after_call, answer_of, GainsFront, CallGives, Calls}
 use Rattle.guest_sys.specs.Parts.{IsWanted, Takes, with_eax}
 use Rattle.guest_sys.proofs.BufferAccess.{denied_more, written_none, none_written}
 use Rattle.guest_sys.proofs.PutBytes.{filled_some}
@@ -55,8 +55,12 @@ gains_none v more e =
     let P : List ℕ → Type 0 = λ t. v.bytes ≡ option_map (λ written. written ++ t) v.bytes in
     record { bytes = subst P (sym e) (given_none v.bytes); steady = steady_same v; idle = λ _. refl }
 
-pub unwritten_same : (v : StreamView) → Unwritten v v
-unwritten_same v = record { bytes = refl; steady = steady_same v }
+-- a sink as it was: the front part that it was given is empty
+pub front_none : (bytes : List ℕ) (v : StreamView) → GainsFront bytes v v
+front_none bytes v = record { written = 0; given = given_none v.bytes; steady = steady_same v }
+
+pub as_before : (m n : MemoryView) → n ≡ m → n ≡ (let k : MemoryView = record m { regions = n.regions } in k)
+as_before m n same = same ∙ ap (λ (k : MemoryView). let l : MemoryView = record m { regions = k.regions } in l) (sym same)
 
 pub calls_by : (r : Result Called SysError) (old new : Machine) (left : List ℕ) (t : State) → Tells left old.streams.input
     → after_call (begin old.cpu old.memory left) ≡ t → CallGives r (begin old.cpu old.memory left) t old new → Calls r old new
@@ -138,14 +142,15 @@ breaks u m n i o e value h is v =
 pub no_memory : (u : Cpu) (m n : MemoryView) (i o e : StreamView) → IsTrue (takes_memory (begin u m (had i.bytes))) → n ≡ m → Calls (Err Memory) (machine u m i o e) (machine u n i o e)
 no_memory u m n i o e h same = calls_by _ _ _ (had i.bytes) _ (told_had i.bytes) refl (
   refl,
-  same,
+  as_before m n same,
+  ap (λ (k : MemoryView). k.regions) same,
   record {
     wanted = h;
     taken = 0;
     few = omega arith;
     input = leaves_same i (had i.bytes) (told_had i.bytes);
-    out = unwritten_same o;
-    err = unwritten_same e;
+    out = front_none _ o;
+    err = front_none _ e;
   },
 )
 
@@ -260,6 +265,7 @@ pub read_fails : (u : Cpu) (m : MemoryView) (i j o e : StreamView) (most : ℕ) 
 read_fails u m i j o e most Input h g w t = calls_by _ _ _ t.left _ t.told refl (
   refl,
   refl,
+  (0, omega (arith, t.gives.0.few, w.within, asks_is u m t.left h g), refl),
   record {
     taken = t.gives.0.taken;
     few = omega (arith, t.gives.0.few, w.within, asks_is u m t.left h g);
@@ -272,17 +278,26 @@ read_fails u m i j o e most Input h g w t = calls_by _ _ _ t.left _ t.told refl 
 read_fails u m i j o e most Memory h g w t = calls_by _ _ _ t.left _ t.told refl (
   refl,
   refl,
+  refl,
   record {
     wanted = rw h refl;
     taken = t.gives.0.taken;
     few = omega (arith, t.gives.0.few, w.within, asks_is u m t.left h g);
     input = record { bytes = t.gives.0.rest; steady = t.gives.1 };
-    out = unwritten_same o;
-    err = unwritten_same e;
+    out = front_none _ o;
+    err = front_none _ e;
   },
 )
 read_fails u m i j o e most Out h g w t = absurd t.gives
 read_fails u m i j o e most Report h g w t = absurd t.gives
+
+-- the same of a call that answers so
+pub read_failed : (r : Result Called SysError) (u : Cpu) (m : MemoryView) (i j o e : StreamView) (most : ℕ) (x : SysError) → get_or u.regs 0 0 ≡ 3 → get_or u.regs 3 0 ≡ 0
+    → IsWanted (get_or u.regs 1 0) (get_or u.regs 2 0) m.regions most → Takes most (Err x) i j → r ≡ Err x
+    → Calls r (machine u m i o e) (machine u m j o e)
+read_failed r u m i j o e most x h g w t is =
+    let P : Result Called SysError → Type 0 = λ r. Calls r (machine u m i o e) (machine u m j o e) in
+    subst P (sym is) (read_fails u m i j o e most x h g w t)
 
 pub faults_as : (called fault : Called) (u : Cpu) (m n : MemoryView) (old : Machine) (i o e : StreamView) → called ≡ fault → n ≡ m
     → Calls (Ok fault) old (machine u m i o e) → Calls (Ok called) old (machine u n i o e)

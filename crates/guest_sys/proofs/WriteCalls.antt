@@ -11,9 +11,9 @@ use Rattle.guest_sys.specs.declared.answers.Called.TheVariants.{Fault}
 use Rattle.guest_sys.specs.declared.answers.SysError.TheVariants.{Out, Report, Memory}
 use Rattle.br_outside.specs.declared.errors.SinkError.TheVariants as sink_errors
 use Rattle.guest_sys.specs.Machine.{machine}
-use Rattle.guest_sys.specs.Calls.{after_call, Unwritten, Calls}
+use Rattle.guest_sys.specs.Calls.{after_call, GainsFront, Calls}
 use Rattle.guest_sys.specs.Parts.{WritesBuffer}
-use Rattle.guest_sys.proofs.DoneCalls.{begin, had, told_had, leaves_same, gains_none, unwritten_same, calls_by, quiet, answers_as}
+use Rattle.guest_sys.proofs.DoneCalls.{begin, had, told_had, leaves_same, gains_none, front_none, as_before, calls_by, quiet, answers_as}
 
 -- the states after a write of some bytes
 abbrev wrote_out : Cpu → MemoryView → List ℕ → List ℕ → State
@@ -82,32 +82,45 @@ pub out_fails : (u v : Cpu) (m : MemoryView) (i o e a : StreamView) (bytes : Opt
     → WritesBuffer bytes (Err sink_errors.Failed) u v o a → Calls (Err Out) (machine u m i o e) (machine v m i a e)
 out_fails u v m i o e a None h g f w = absurd w
 out_fails u v m i o e a (Some bytes) h g f w =
-    calls_by _ _ _ (had i.bytes) (wrote_out u m (had i.bytes) bytes) (told_had i.bytes) (out_is u m (had i.bytes) bytes h g f) (w.0, refl, (w.1, refl, refl))
+    calls_by _ _ _ (had i.bytes) (wrote_out u m (had i.bytes) bytes) (told_had i.bytes) (out_is u m (had i.bytes) bytes h g f) (w.0, refl, refl, (w.1, refl, refl))
 
 pub err_fails : (u v : Cpu) (m : MemoryView) (i o e a : StreamView) (bytes : Option (List ℕ)) → get_or u.regs 0 0 ≡ 4 → get_or u.regs 3 0 ≡ 2 → buffer (get_or u.regs 1 0) (get_or u.regs 2 0) m.regions ≡ bytes
     → WritesBuffer bytes (Err sink_errors.Failed) u v e a → Calls (Err Report) (machine u m i o e) (machine v m i o a)
 err_fails u v m i o e a None h g f w = absurd w
 err_fails u v m i o e a (Some bytes) h g f w =
-    calls_by _ _ _ (had i.bytes) (wrote_err u m (had i.bytes) bytes) (told_had i.bytes) (err_is u m (had i.bytes) bytes h g f) (w.0, refl, (w.1, refl, refl))
+    calls_by _ _ _ (had i.bytes) (wrote_err u m (had i.bytes) bytes) (told_had i.bytes) (err_is u m (had i.bytes) bytes h g f) (w.0, refl, refl, (w.1, refl, refl))
 
-no_memory : (u v : Cpu) (m : MemoryView) (i o e a b : StreamView) → get_or u.regs 0 0 ≡ 4 → v ≡ u → Unwritten o a → Unwritten e b → Calls (Err Memory) (machine u m i o e) (machine v m i a b)
-no_memory u v m i o e a b h same out err = calls_by _ _ _ (had i.bytes) _ (told_had i.bytes) refl (
-  same,
+-- memory ran out when a front part was written
+pub out_no_memory : (u v : Cpu) (m : MemoryView) (i o e a : StreamView) (bytes : Option (List ℕ)) → get_or u.regs 0 0 ≡ 4 → get_or u.regs 3 0 ≡ 1 → buffer (get_or u.regs 1 0) (get_or u.regs 2 0) m.regions ≡ bytes
+    → WritesBuffer bytes (Err sink_errors.Memory) u v o a → Calls (Err Memory) (machine u m i o e) (machine v m i a e)
+out_no_memory u v m i o e a None h g f w = absurd w
+out_no_memory u v m i o e a (Some bytes) h g f w = calls_by _ _ _ (had i.bytes) (wrote_out u m (had i.bytes) bytes) (told_had i.bytes) (out_is u m (had i.bytes) bytes h g f) (
+  w.0,
+  refl,
   refl,
   record {
     wanted = rw h refl;
     taken = 0;
     few = omega arith;
     input = leaves_same i (had i.bytes) (told_had i.bytes);
-    out = out;
-    err = err;
+    out = w.1;
+    err = front_none [] e;
   },
 )
 
-pub out_no_memory : (u v : Cpu) (m : MemoryView) (i o e a : StreamView) (bytes : Option (List ℕ)) → get_or u.regs 0 0 ≡ 4 → WritesBuffer bytes (Err sink_errors.Memory) u v o a → Calls (Err Memory) (machine u m i o e) (machine v m i a e)
-out_no_memory u v m i o e a None h w = absurd w
-out_no_memory u v m i o e a (Some bytes) h w = no_memory u v m i o e a e h w.0 w.1 (unwritten_same e)
-
-pub err_no_memory : (u v : Cpu) (m : MemoryView) (i o e a : StreamView) (bytes : Option (List ℕ)) → get_or u.regs 0 0 ≡ 4 → WritesBuffer bytes (Err sink_errors.Memory) u v e a → Calls (Err Memory) (machine u m i o e) (machine v m i o a)
-err_no_memory u v m i o e a None h w = absurd w
-err_no_memory u v m i o e a (Some bytes) h w = no_memory u v m i o e o a h w.0 (unwritten_same o) w.1
+pub err_no_memory : (u v : Cpu) (m : MemoryView) (i o e a : StreamView) (bytes : Option (List ℕ)) → get_or u.regs 0 0 ≡ 4 → get_or u.regs 3 0 ≡ 2 → buffer (get_or u.regs 1 0) (get_or u.regs 2 0) m.regions ≡ bytes
+    → WritesBuffer bytes (Err sink_errors.Memory) u v e a → Calls (Err Memory) (machine u m i o e) (machine v m i o a)
+err_no_memory u v m i o e a None h g f w = absurd w
+err_no_memory u v m i o e a (Some bytes) h g f w = calls_by _ _ _ (had i.bytes) (wrote_err u m (had i.bytes) bytes) (told_had i.bytes) (err_is u m (had i.bytes) bytes h g f) (
+  w.0,
+  refl,
+  refl,
+  record {
+    wanted = rw h refl;
+    taken = 0;
+    few = omega arith;
+    input = leaves_same i (had i.bytes) (told_had i.bytes);
+    out = front_none [] o;
+    err = w.1;
+  },
+)

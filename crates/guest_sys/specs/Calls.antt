@@ -1,5 +1,6 @@
 -- What a system call does to a machine, by the definition of the call.
-use Rattle.std.specs.Prelude.{◌≡◌, ℕ, ◌<◌, ◌≤◌, Bool, ◌&&◌, ◌||◌, nat_eq, if◌then◌else◌, IsTrue, List, [], take, drop, IsSome, Result, Ok, Err}
+use Rattle.std.specs.Prelude.{◌≡◌, ℕ, ◌<◌, ◌≤◌, Bool, ◌&&◌, ◌||◌, nat_eq, if◌then◌else◌, IsTrue, List, [], take, drop, Some, IsSome, Result, Ok, Err}
+use Rattle.br_word.specs.Memory.{Region}
 use Rattle.br_word.specs.State.{State, RunState, Running, Exited, Faulted, eax, ecx, edx, ebx}
 use Rattle.br_outside.specs.Outside.{StreamView}
 use Rattle.ia_inst.specs.Step.{settled}
@@ -69,31 +70,40 @@ pub record SinkFails (bytes : List ℕ) (old new : StreamView) : Type 0 where
   pub fails : Fails old new
   pub some : bytes ≡ [] → ⊥
 
--- a sink as it was
-pub record Unwritten (old new : StreamView) : Type 0 where
-  pub bytes : new.bytes ≡ old.bytes
+-- a sink was given a front part of these bytes, and did not fail
+pub record GainsFront (bytes : List ℕ) (old new : StreamView) : Type 0 where
+  pub written : ℕ
+  pub given : WasGiven (take written bytes) old new
   pub steady : Steady old new
 
--- memory ran out when at most what the call asks for was taken; nothing was written
-pub record MemoryFails (s : State) (before after : Streams) : Type 0 where
+-- memory ran out when at most what the call asks for was taken, and a front part of what it writes was written
+pub record MemoryFails (s t : State) (before after : Streams) : Type 0 where
   pub wanted : IsTrue (takes_memory s)
   pub taken : ℕ
   pub few : taken ≤ asks s
   pub input : Leaves (drop taken s.input) before.input after.input
-  pub out : Unwritten before.out after.out
-  pub err : Unwritten before.err after.err
+  pub out : GainsFront t.out before.out after.out
+  pub err : GainsFront t.err before.err after.err
 
 -- by the object that failed, and only that one; t is the state that the call would have come to
 abbrev pub FailsAt : SysError → State → State → Streams → Streams → Type 0
 FailsAt Input s t before after = InputFails s before after
 FailsAt Out s t before after = SinkFails t.out before.out after.out × (after.input ≡ before.input) × (after.err ≡ before.err)
 FailsAt Report s t before after = SinkFails t.err before.err after.err × (after.input ≡ before.input) × (after.out ≡ before.out)
-FailsAt Memory s t before after = MemoryFails s before after
+FailsAt Memory s t before after = MemoryFails s t before after
 
--- after an error processor and memory are as before
+-- the regions after a call from s that failed: as before, but that a read whose input failed may have put first bytes at ecx
+abbrev pub LeavesRegions : SysError → State → List Region → Type 0
+LeavesRegions Input s regions = (n : ℕ) × (n < asks s) × (filled (ecx s) (take n s.input) s.regions ≡ Some regions)
+LeavesRegions Out s regions = regions ≡ s.regions
+LeavesRegions Report s regions = regions ≡ s.regions
+LeavesRegions Memory s regions = regions ≡ s.regions
+
+-- after an error the processor is as before, and memory but for its regions
 abbrev pub CallGives : Result Called SysError → State → State → Machine → Machine → Type 0
 CallGives (Ok called) s t old new = Does s t called old new
-CallGives (Err e) s t old new = (new.cpu ≡ old.cpu) × (new.memory ≡ old.memory) × FailsAt e s t old.streams new.streams
+CallGives (Err e) s t old new = (new.cpu ≡ old.cpu) × (new.memory ≡ record (old.memory) { regions = new.memory.regions })
+    × LeavesRegions e s new.memory.regions × FailsAt e s t old.streams new.streams
 
 -- a call gives what the definition says, with what the input has left, where it tells
 pub record Calls (result : Result Called SysError) (old new : Machine) : Type 0 where

@@ -11,7 +11,7 @@ use Rattle.guest_sys.specs.declared.answers.SysError.{SysError}
 use Rattle.guest_sys.specs.declared.answers.SysError.TheVariants.{Input, Memory}
 use Rattle.br_outside.specs.declared.errors.SinkError.{SinkError}
 use Rattle.br_outside.specs.declared.errors.SinkError.TheVariants as sink_errors
-use Rattle.guest_sys.specs.Calls.{SinkFails, Unwritten}
+use Rattle.guest_sys.specs.Calls.{SinkFails, GainsFront}
 use Rattle.br_outside.specs.Streams.{Steady, Fails, Tells, HasLeft, Leaves, Gains}
 
 -- a piece of what a source has left was taken; an empty one means that nothing is left
@@ -73,7 +73,7 @@ GivesBuffer None (Ok done) old new = (done ≡ false) × (new ≡ old)
 GivesBuffer (Some bytes) (Ok done) old new = (done ≡ true) × Gains bytes old new
 GivesBuffer None (Err e) old new = ⊥
 GivesBuffer (Some bytes) (Err sink_errors.Failed) old new = SinkFails bytes old new
-GivesBuffer (Some bytes) (Err sink_errors.Memory) old new = Unwritten old new
+GivesBuffer (Some bytes) (Err sink_errors.Memory) old new = GainsFront bytes old new
 
 -- eax answers
 abbrev pub with_eax : ℕ → Cpu → Cpu
@@ -85,4 +85,4 @@ WritesBuffer None (Ok called) u v old new = (called ≡ Fault (Access (get_or u.
 WritesBuffer (Some bytes) (Ok called) u v old new = (called ≡ Goes) × (v ≡ with_eax (get_or u.regs 2 0) u) × Gains bytes old new
 WritesBuffer None (Err e) u v old new = ⊥
 WritesBuffer (Some bytes) (Err sink_errors.Failed) u v old new = (v ≡ u) × SinkFails bytes old new
-WritesBuffer (Some bytes) (Err sink_errors.Memory) u v old new = (v ≡ u) × Unwritten old new
+WritesBuffer (Some bytes) (Err sink_errors.Memory) u v old new = (v ≡ u) × GainsFront bytes old new

@@ -136,8 +136,9 @@ fn move_break(cpu: &mut Cpu, m: &mut Memory) -> Result<Called, SysError>
 /// byte more than fits.
 ///
 /// Errors: `Input`, `Out` and `Report` where that object failed, `Memory` where memory ran out, which
-/// read, write and brk can meet. Then processor and memory are as before, and a front part of the
-/// bytes of the call may have been taken or written.
+/// read, write and brk can meet. Then the processor is as before, and a front part of the bytes of the
+/// call may have been taken or written. Memory is as before too, but that after `Input` a front part of
+/// the bytes that came may stand at ecx.
 ///
 /// A call that is done leaves the count of faults of each object as it was, and so does `Memory`; after
 /// `Input`, `Out` and `Report` that object's count rose, and the other objects are as before.

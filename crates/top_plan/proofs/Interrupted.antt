@@ -127,13 +127,13 @@ taken_most d left e s t taken u few most is =
     let b : length (drop taken left) ≡ length left - taken = length-drop taken left in
     (taken, is, omega (arith, u.most, a, b))
 
-input_fails : (files : Files) (left : List ℕ) (d : Turned) (e : Ending) (s t : World) → (s.input.bytes ≡ Some left → LeftBack left (turned_before d e) t.input.bytes) → t.shelf ≡ s.shelf → t.out.bytes ≡ s.out.bytes → t.report.bytes ≡ s.report.bytes
+input_fails : (files : Files) (left : List ℕ) (d : Turned) (e : Ending) (s t : World) → (s.input.bytes ≡ Some left → LeftBack left (turned_before d e) t.input.bytes) → t.shelf ≡ s.shelf → WroteFront d.printed s.out.bytes t.out.bytes → WroteFront d.reported s.report.bytes t.report.bytes
     → IsCut files left (turned_before d e) s t
 input_fails files left d e s t input shelf out report = record {
   shelf = λ told. stored_none e.stored files s t (ap (λ v. v.files) shelf ∙ told);
   input = input;
-  out = wrote_none (d.printed ++ e.printed) s.out.bytes t.out.bytes out;
-  report = wrote_none (d.reported ++ e.reported) s.report.bytes t.report.bytes report;
+  out = wrote_before d.printed e.printed s.out.bytes t.out.bytes out;
+  report = wrote_before d.reported e.reported s.report.bytes t.report.bytes report;
 }
 
 output_fails : (files : Files) (left : List ℕ) (d : Turned) (e : Ending) (s t : World) → length e.left ≤ length left → WroteFront d.printed s.out.bytes t.out.bytes → WroteFront d.reported s.report.bytes t.report.bytes → t.shelf ≡ s.shelf → t.input ≡ s.input
@@ -186,7 +186,7 @@ turn_cut d q files left s o t has shelf u (inr quiet) few then (GoesOn m h went)
     (then m (record { shelf = either shelf (λ a. a) (λ b. ap (λ v. v.files) h.shelf ∙ b); input = inl quiet }) went)
 turn_cut d q files left s o t has shelf u sparing few then (FailsInput h) =
     input_fails files left d (expected q files d.left) s t (λ has. taken_most d left (expected q files d.left) s t h.taken u few (omega (arith, h.few)) (told_to s.input.bytes left (λ b. t.input.bytes ≡ Some (drop h.taken left)) has h.rest))
-    h.shelf (ap (λ v. v.bytes) h.out) (ap (λ v. v.bytes) h.report)
+    h.shelf (wrote_none d.printed s.out.bytes t.out.bytes (ap (λ v. v.bytes) h.out)) (wrote_none d.reported s.report.bytes t.report.bytes (ap (λ v. v.bytes) h.report))
 turn_cut d q files left s o t has shelf u sparing few then (FailsOutput h) =
     let a : length d.left ≡ length left - u.used = ap length u.rest ∙ length-drop u.used left in
     output_fails files left d (expected q files d.left) s t (omega (arith, a, few)) (h.written, h.given) (wrote_none d.reported s.report.bytes t.report.bytes (ap (λ v. v.bytes) h.report)) h.shelf h.input
@@ -195,7 +195,7 @@ turn_cut d q files left s o t has shelf u sparing few then (FailsReport h) =
     output_fails files left d (expected q files d.left) s t (omega (arith, a, few)) (wrote_none d.printed s.out.bytes t.out.bytes (ap (λ v. v.bytes) h.out)) (h.written, h.given) h.shelf h.input
 turn_cut d q files left s o t has shelf u sparing few then (WantsMemory h) =
     input_fails files left d (expected q files d.left) s t (λ has. taken_most d left (expected q files d.left) s t h.taken u few h.few (told_to s.input.bytes left (λ b. t.input.bytes ≡ Some (drop h.taken left)) has h.input.bytes))
-    h.shelf h.out h.report
+    h.shelf (h.printed, h.out) (h.reported, h.report)
 
 -- ---- the run
 

@@ -47,4 +47,4 @@ pub report_fails_kept : (d : Turned) (s : World) (o : WorkEnd) (t : World) → R
 report_fails_kept d s o t h = all_kept s t (take h.written d.reported) h.shelf (same_holds s.input t.input h.input) (same_holds s.out t.out h.out) (fails_holds s.report t.report h.fails) h.given
 
 pub runs_out_kept : (d : Turned) (left : List ℕ) (s : World) (o : WorkEnd) (t : World) → TurnRunsOut d left s o t → IsKept s t
-runs_out_kept d left s o t h = all_kept s t [] h.shelf (steady_holds s.input t.input h.input.steady) (steady_holds s.out t.out h.out_steady) (steady_holds s.report t.report h.report_steady) (h.report ∙ nothing s.report.bytes)
+runs_out_kept d left s o t h = all_kept s t (take h.reported d.reported) h.shelf (steady_holds s.input t.input h.input.steady) (steady_holds s.out t.out h.out_steady) (steady_holds s.report t.report h.report_steady) h.report

@@ -113,16 +113,19 @@ pub record ReportFails (d : Turned) (s : World) (o : WorkEnd) (t : World) : Type
   pub input : t.input ≡ s.input
   pub out : t.out ≡ s.out
 
--- Memory was wanting in the turn, when at most what it asks for was taken; nothing was written.
+-- Memory was wanting in the turn, when at most what it asks for was taken, and front parts of what it prints and reports were
+-- written.
 pub record TurnRunsOut (d : Turned) (left : List ℕ) (s : World) (o : WorkEnd) (t : World) : Type 0 where
   pub ends : o ≡ Err Memory
   pub taken : ℕ
   pub few : taken ≤ d.asked
   pub input : Leaves (drop taken left) s.input t.input
   pub shelf : t.shelf ≡ s.shelf
-  pub out : t.out.bytes ≡ s.out.bytes
-  pub report : t.report.bytes ≡ s.report.bytes
+  pub printed : ℕ
+  pub out : WasGiven (take printed d.printed) s.out t.out
   pub out_steady : Steady s.out t.out
+  pub reported : ℕ
+  pub report : WasGiven (take reported d.reported) s.report t.report
   pub report_steady : Steady s.report t.report
 
 -- a turn with this input left, and what comes after it

@@ -78,7 +78,7 @@ turn_fails next g h v before after sys.Memory a =
     let d : StepFailed sys.Memory (fed a.left g.state) 0 g h before after = a.gives in
     let few : asks (fed a.left g.state) ≡ asks_next (fed a.left g.state) = asked_all (traps (fed a.left g.state)) (fed a.left g.state) d.trap in
     let z = d.streams in
-    turns next g a.left (with_streams v before) _ _ a.told (WantsMemory (record { ends = refl; taken = z.taken; few = (let P : ℕ → Type 0 = λ k. z.taken ≤ k in subst P few z.few); input = z.input; shelf = refl; out = z.out.bytes; report = z.err.bytes; out_steady = z.out.steady; report_steady = z.err.steady }))
+    turns next g a.left (with_streams v before) _ _ a.told (WantsMemory (record { ends = refl; taken = z.taken; few = (let P : ℕ → Type 0 = λ k. z.taken ≤ k in subst P few z.few); input = z.input; shelf = refl; printed = z.out.written; out = z.out.given; reported = z.err.written; report = z.err.given; out_steady = z.out.steady; report_steady = z.err.steady }))
 
 -- a guest whose step failed was running
 pub ran_when_failed : (g h : GuestView) (before after : Streams) (error : SysError) → StepCall (Err error) 0 g h before after → g.state.stop ≡ Running

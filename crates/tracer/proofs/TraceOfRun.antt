@@ -1,17 +1,17 @@
 -- What a traced run gives: the steps are those of the guest's run, and the edges are theirs.
-use Rattle.std.proofs.Common.{◌≡◌, ℕ, suc, ◌<◌, ◌≤◌, true, false, List, [], ◌∷◌, ◌++◌, length, Option, Some, None, IfSome, Result, Ok, Err, Bool, refl, ◌∙◌, ap, inl, inr, arith}
+use Rattle.std.proofs.Common.{◌≡◌, ℕ, suc, ◌<◌, ◌≤◌, true, false, List, [], ◌∷◌, ◌++◌, length, Option, Some, None, IfSome, Result, Ok, Err, Bool, refl, sym, ◌∙◌, ap, subst, append-nil, inl, inr, arith}
 use Rattle.br_word.specs.State.{State, RunState, Running, Exited, Faulted}
 use Rattle.ia_inst.specs.Step.{step}
 use Rattle.elf_read.specs.declared.exe.Exe.{Exe}
 use Rattle.br_outside.specs.Outside.{StreamView}
-use Rattle.br_outside.specs.Streams.{Streams, Gains}
+use Rattle.br_outside.specs.Streams.{Streams, WasGiven, Gains}
 use Rattle.guest_sys.specs.Calls.{asks, spare, Passes}
 use Rattle.guest_sys.specs.declared.answers.SysError.{SysError}
 use Rattle.guest_sys.specs.declared.answers.SysError.TheVariants as sys
 use Rattle.run_model.specs.Opening.{opening, arguments}
 use Rattle.run_model.specs.Edges.{edges_from}
 use Rattle.run_model.specs.Run.{run}
-use Rattle.guest_run.specs.Guest.{GuestView, beginning, traps, asks_by, asks_next, ahead, while_running, OneFails, Unchanged, RunDone, RunFailsAt}
+use Rattle.guest_run.specs.Guest.{GuestView, beginning, traps, asks_by, asks_next, ahead, while_running, OneFails, PartGained, RunDone, RunFailsAt}
 use Rattle.guest_run.specs.BoundedRun.{edge_list, TakesSteps, StepsTold, StepsCome, BreakTold, BreakComes, StepsHold, RunsHold, BreaksHold}
 use Rattle.trace_file.specs.Edges.{Edge, collected}
 use Rattle.tracer.specs.declared.answers.Traced.{Traced}
@@ -97,11 +97,14 @@ told_failed sys.Memory n taken exe s edges h a b less is few d = record { done =
 
 -- ---- memory was wanting
 
-unchanged : (bytes : List ℕ) (old new : StreamView) → Gains bytes old new → Unchanged bytes old new
-unchanged bytes old new w = record { given = w.bytes; steady = w.steady }
+-- a sink that was given these bytes, and none of those of the next step
+gained_none : (bytes all : List ℕ) (old new : StreamView) → Gains bytes old new → PartGained bytes all old new
+gained_none bytes all old new w =
+    let P : List ℕ → Type 0 = λ x. WasGiven x old new in
+    record { part = record { more = 0; given = subst P (sym (append-nil bytes)) w.bytes }; steady = w.steady }
 
 wants_at : (u v : State) (more : ℕ) (a b : Streams) → more ≤ ahead u → Passes u more a b → RunFailsAt sys.Memory u v a b
-wants_at u v more a b few p = ((more, omega (arith, few, ahead_le u), p.input), unchanged u.out a.out b.out p.out, unchanged u.err a.err b.err p.err)
+wants_at u v more a b few p = ((more, omega (arith, few, ahead_le u), p.input), gained_none u.out v.out a.out b.out p.out, gained_none u.err v.err a.err b.err p.err)
 
 told_wanted : (n taken : ℕ) (exe : Exe) (s : State) (edges : List Edge) (g h : GuestView) (a b : Streams) → taken ≤ n → AreFew (collected edges (entry_set exe))
     → StepsTold taken s edges g h a b → TraceWanted n exe s a b

@@ -1,7 +1,8 @@
-use Rattle.std.proofs.Common.{ap, sym, ◌∙◌, ◌≡◌, Some, None, get_or, arith, length}
+use Rattle.std.proofs.Common.{Err, ap, sym, ◌∙◌, ◌≡◌, Some, None, get_or, arith, length}
+use Rattle.std.proofs.lemmas.Result.{err_from_is_err_and}
 use Rattle.ia_inst.specs.System.{filled}
 use Rattle.guest_sys.proofs.PutBytes.{put_false, put_true}
-use Rattle.guest_sys.proofs.DoneCalls.{answers_as, counts_as, bad_read, reads, read_faults, faults_as}
+use Rattle.guest_sys.proofs.DoneCalls.{answers_as, counts_as, bad_read, reads, read_faults, read_failed, faults_as}
 use Rattle.guest_sys.proofs.calls.read.Goals as goal
 
 pub returns-then-cpu-ne0 : goal.returns-then-cpu-ne0
@@ -23,3 +24,8 @@ returns g c o e =
     let count : c.len.result ≡ length c.in_ok-bytes.bytes.items = omega arith in
     counts_as c.answer-2.result c.args.cpu.now c.answer-2.new.cpu c.put.new.m _ _ o e c.len.result (length c.in_ok-bytes.bytes.items) c.answer-2.ensures.goes c.answer-2.ensures.eax count
     (reads c.args.cpu.now c.args.m.now c.put.new.m _ _ o e _ c.in_ok-bytes.bytes.items c.requires c.if-cpu-ne0.false c.wanted-most.ensures c.in_ok-bytes.ensures p.0 some p.2)
+
+pub returns-in_err-bytes : goal.returns-in_err-bytes
+returns-in_err-bytes g c o e =
+    let p = err_from_is_err_and c.from_residual.result c.from_residual.ensures.1 in
+    read_failed _ c.args.cpu.now c.args.m.now _ _ o e _ _ c.requires c.if-cpu-ne0.false c.wanted-most.ensures c.in_err-bytes.ensures (p.1 ∙ ap Err p.2)

@@ -9,4 +9,4 @@ pub returns-in-Err-Failed : goal.returns-in-Err-Failed
 returns-in-Err-Failed g c i e = out_fails _ _ _ i _ e _ _ c.requires.number c.requires.descriptor refl (rw c.in-Err-Failed.field-0-is at c.in-Err-Failed.ensures)
 
 pub returns-in-Err-Memory : goal.returns-in-Err-Memory
-returns-in-Err-Memory g c i e = out_no_memory _ _ _ i _ e _ _ c.requires.number (rw c.in-Err-Memory.field-0-is at c.in-Err-Memory.ensures)
+returns-in-Err-Memory g c i e = out_no_memory _ _ _ i _ e _ _ c.requires.number c.requires.descriptor refl (rw c.in-Err-Memory.field-0-is at c.in-Err-Memory.ensures)
