@@ -327,9 +327,9 @@ module _ (plan : Plan) (Static good W : State → Type 0) (may : Type 0) where
     opened : (x : ℕ) (s t u : State) → plan.is_island x ≡ true → (h : AtBlock plan Static x s t) → Opens plan x h.cells u → AtNative plan Static x s u
     opened x s t u i h o =
         let all : AgreesOn every s.cpu (at_home plan h.cells) = record {
-          regs = λ r l e. h.homes.regs r l (laid.island_live x r i);
-          flags = λ f e m. h.homes.flags f (laid.island_live x (number f) i) m;
-          df = λ e. h.homes.df (laid.island_live x 13 i);
+          regs = λ r l e. h.homes.regs r l (laid.island_live x r (omega arith) i);
+          flags = λ f e m. h.homes.flags f (laid.island_live x (number f) (number_small f) i) m;
+          df = λ e. h.homes.df (laid.island_live x 13 (omega arith) i);
         } in
         let w = restored_wider plan (plan.native x) (at_home plan h.cells) h.cells.outer h.cells s u o.restored all h.outer h.shows h.brk_start h.brk (orig.eight s h.static) in
         record {

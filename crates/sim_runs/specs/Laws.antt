@@ -101,7 +101,7 @@ pub record Original (Static : State → Type 0) : Type 0 where
 pub record Laid (plan : Plan) : Type 0 where
   pub low : plan.code.start + length plan.code.bytes ≤ 0x07000000
   pub known_start : (x y : ℕ) → plan.is_start x ≡ true → plan.knows x y ≡ true → plan.is_start y ≡ true
-  pub island_live : (x v : ℕ) → plan.is_island x ≡ true → plan.live x v ≡ true
+  pub island_live : (x v : ℕ) → v < 14 → plan.is_island x ≡ true → plan.live x v ≡ true
 
 -- the original stands at the start of a block that is not native
 pub record Starts (plan : Plan) (Static : State → Type 0) (x : ℕ) (s : State) : Type 0 where

@@ -120,7 +120,7 @@ pub record IsLaid (exe : Exe) (plan : Plan) (file : List ℕ) : Type 0 where
   pub copied : (x : ℕ) (own : List ℕ) (rs : List Region) → plan.is_island x ≡ true
       → found (plan.native x) (plan.code ∷ private_region own ∷ rs) ≡ There (plan.inst x) (plan.len x)
   pub inside : (x : ℕ) → plan.is_island x ≡ true → plan.native x + plan.len x < 0x07000000
-  pub live : (x v : ℕ) → plan.is_island x ≡ true → plan.live x v ≡ true
+  pub live : (x v : ℕ) → v < 14 → plan.is_island x ≡ true → plan.live x v ≡ true
 
 -- all of it, with the bounds on steps: of a fragment, of the exchanges round a native instruction, and at the entry
 pub record Laws (exe : Exe) (edges : List Edge) (file : List ℕ) (c : Coded) : Type 0 where

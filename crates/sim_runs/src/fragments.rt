@@ -16,8 +16,8 @@ pub fn fragments_run()
     encoding_length();
 }
 
-/// A block whose names stand for something is served by the coding that runs all of its lines, each in a slot
-/// of its own.
+/// A block whose names stand for something is served by each coding that runs all of its lines, each in a slot
+/// of its own, where all virtual registers are live.
 pub fn all_lines_serve()
     ensures { AllLinesServe }
 {}

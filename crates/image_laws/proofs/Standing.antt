@@ -1,0 +1,168 @@
+-- Where the parts of recovered code stand.
+use Rattle.std.proofs.Common.{◌≡◌, ℕ, ◌+◌, ◌-◌, ◌≤◌, Bool, true, false, List, [], ◌∷◌, ◌++◌, length, map, refl, sym, ap, ◌∙◌, subst, arith, length-append, append_assoc}
+use Rattle.std.proofs.lemmas.List.{append-nil}
+use Rattle.br_word.specs.Memory.{zeros}
+use Rattle.elf_read.specs.declared.exe.Exe.{Exe}
+use Rattle.ia_encode.specs.declared.item.Dest.{Dest}
+use Rattle.ia_encode.specs.declared.item.Dest.TheVariants as dests
+use Rattle.ia_encode.specs.declared.item.Item.{Item}
+use Rattle.ia_encode.specs.declared.item.Item.TheVariants as item
+use Rattle.ia_encode.specs.Items.{size_of_items, dest_at, AreDistinct, AreValid}
+use Rattle.run_model.specs.Edges.{Edge}
+use Rattle.block_cut.specs.CountedEdges.{counting}
+use Rattle.block_cut.specs.Transfers.{is_among}
+use Rattle.flow_graph.specs.Graph.{known_of, starts_in}
+use Rattle.flow_graph.specs.GraphOf.{starts_of, graph_of}
+use Rattle.ssa_form.specs.declared.form.BlockKey.{BlockKey}
+use Rattle.par_moves.specs.Homes.{register_homes}
+use Rattle.fall_stubs.specs.Exchange.{opening_items, closing_items}
+use Rattle.code_laws.specs.Valid.{CodeValid}
+use Rattle.code_layout.specs.declared.place.TheConstants.{CODE_START}
+use Rattle.code_layout.specs.Keys.{live_of, key_of, keys_of}
+use Rattle.code_layout.specs.Linked.{entry_items, address_in, bytes_at, bytes_from, first_at, linked, fragments_of, has_key, code_of}
+use Rattle.sim_runs.specs.Recovered.{is_start_of}
+use Rattle.sim_runs.specs.Pieces.{IsLinked}
+use Rattle.image_laws.specs.Coded.{key_at, start_items, entry_of, address_of, coded_of}
+use Rattle.image_laws.specs.Stands.{CodeStands}
+use Rattle.image_laws.proofs.Places.{JumpLengths, bytes_long, IsAmong, fragment_at, among}
+
+-- ---- starts, keys and fragments
+
+module _ (exe : Exe) (edges : List Edge) where
+  abbrev starts : List ℕ
+  starts = starts_of exe (counting exe edges)
+
+  same_keys : keys_of exe edges ≡ map (key_at exe edges) starts
+  unfolding keys_of graph_of
+  same_keys = each starts
+    where
+      each : (xs : List ℕ) → map (key_of (live_of exe edges)) (map (λ s. record { start = s; known = known_of exe (counting exe edges) s }) xs) ≡ map (key_at exe edges) xs
+      each [] = refl
+      each (x ∷ xs) = ap (λ ks. key_at exe edges x ∷ ks) (each xs)
+
+  same_starts : starts_in (graph_of exe edges) ≡ starts
+  unfolding graph_of
+  same_starts = each starts
+    where
+      each : (xs : List ℕ) → starts_in (map (λ s. record { start = s; known = known_of exe (counting exe edges) s }) xs) ≡ xs
+      each [] = refl
+      each (x ∷ xs) = ap (λ ks. x ∷ ks) (each xs)
+
+  key_starts : map (λ (key : BlockKey). key.start) (keys_of exe edges) ≡ starts
+  key_starts = ap (λ ks. map (λ (key : BlockKey). key.start) ks) same_keys ∙ each starts
+    where
+      each : (xs : List ℕ) → map (λ (key : BlockKey). key.start) (map (key_at exe edges) xs) ≡ xs
+      each [] = refl
+      each (x ∷ xs) = ap (λ ks. x ∷ ks) (each xs)
+
+  pub known : (x : ℕ) → has_key (keys_of exe edges) x ≡ is_start_of exe edges x
+  known x = ap (λ xs. is_among xs x) key_starts ∙ sym (ap (λ xs. is_among xs x) same_starts)
+
+  same_fragments : fragments_of exe (keys_of exe edges) ≡ map (fragment_at (start_items exe edges)) starts
+  same_fragments = ap (λ ks. fragments_of exe ks) same_keys ∙ each starts
+    where
+      each : (xs : List ℕ) → fragments_of exe (map (key_at exe edges) xs) ≡ map (fragment_at (start_items exe edges)) xs
+      each [] = refl
+      each (x ∷ xs) = ap (λ ks. fragment_at (start_items exe edges) x ∷ ks) (each xs)
+
+-- ---- the whole code
+
+no_more : (bytes : List ℕ) → bytes ++ zeros (length bytes - length bytes) ≡ bytes
+unfolding zeros
+no_more bytes = let z : length bytes - length bytes ≡ 0 = omega arith in ap (λ n. bytes ++ zeros n) z ∙ append-nil bytes
+
+pub same_bytes : (exe : Exe) (edges : List Edge) → (coded_of exe edges).code.bytes ≡ code_of exe edges
+same_bytes exe edges = no_more (code_of exe edges)
+
+whole : (exe : Exe) (edges : List Edge) → code_of exe edges ≡ bytes_at (address_of exe edges) CODE_START (entry_of exe edges) ++ bytes_from (address_of exe edges) (first_at (entry_of exe edges)) (fragments_of exe (keys_of exe edges))
+unfolding code_of linked
+whole exe edges = refl
+
+module _ (laws : JumpLengths) (exe : Exe) (edges : List Edge) (x : ℕ) (start : is_start_of exe edges x ≡ true) where
+  abbrev entry_bytes : List ℕ
+  entry_bytes = bytes_at (address_of exe edges) CODE_START (entry_of exe edges)
+
+  place : IsAmong (address_of exe edges) (bytes_from (address_of exe edges) (first_at (entry_of exe edges)) (fragments_of exe (keys_of exe edges))) (first_at (entry_of exe edges)) (address_of exe edges x) (start_items exe edges x)
+  place =
+      let held : is_among (starts exe edges) x ≡ true = sym (ap (λ xs. is_among xs x) (same_starts exe edges)) ∙ start in
+      subst (λ fs. IsAmong (address_of exe edges) (bytes_from (address_of exe edges) (first_at (entry_of exe edges)) fs) (first_at (entry_of exe edges)) (address_in (first_at (entry_of exe edges)) fs x) (start_items exe edges x)) (sym (same_fragments exe edges))
+      (among laws (address_of exe edges) (start_items exe edges) (starts exe edges) (first_at (entry_of exe edges)) x held)
+
+  abbrev own : List ℕ
+  own = bytes_at (address_of exe edges) (address_of exe edges x) (start_items exe edges x)
+
+  parts : code_of exe edges ≡ (entry_bytes ++ place.front) ++ (own ++ place.behind)
+  parts = whole exe edges ∙ ap (λ bs. entry_bytes ++ bs) place.bytes ∙ sym (append_assoc entry_bytes place.front (own ++ place.behind))
+
+  begins : address_of exe edges x ≡ CODE_START + length (entry_bytes ++ place.front)
+  begins =
+      let long = bytes_long laws (dest_at (address_of exe edges) CODE_START (entry_of exe edges)) (entry_of exe edges) CODE_START in
+      let both = length-append entry_bytes place.front in
+      omega (arith, place.place, long, both)
+
+  pub stands : AreValid (start_items exe edges x) → AreDistinct (start_items exe edges x) → IsLinked (coded_of exe edges).code (address_of exe edges) (address_of exe edges x) (start_items exe edges x)
+  stands valid distinct = record {
+    front = entry_bytes ++ place.front;
+    behind = place.behind;
+    bytes = same_bytes exe edges ∙ parts;
+    place = begins;
+    valid = valid;
+    distinct = distinct;
+  }
+
+  pub inside : address_of exe edges x + size_of_items (start_items exe edges x) ≤ CODE_START + length (code_of exe edges)
+  inside =
+      let long = bytes_long laws (dest_at (address_of exe edges) (address_of exe edges x) (start_items exe edges x)) (start_items exe edges x) (address_of exe edges x) in
+      let all = ap length parts ∙ length-append (entry_bytes ++ place.front) (own ++ place.behind) in
+      let rest = length-append own place.behind in
+      omega (arith, begins, long, all, rest)
+
+-- ---- the entry
+
+valid_behind : (is js : List Item) → AreValid (is ++ js) → AreValid js
+valid_behind [] js h = h
+valid_behind (item.Inst i ∷ is) js h = valid_behind is js h.1
+valid_behind (item.Byte b ∷ is) js h = valid_behind is js h
+valid_behind (item.Jump c d ∷ is) js h = valid_behind is js h.1
+valid_behind (item.Label l ∷ is) js h = valid_behind is js h
+
+distinct_behind : (is js : List Item) → AreDistinct (is ++ js) → AreDistinct js
+distinct_behind [] js h = h
+distinct_behind (item.Inst i ∷ is) js h = distinct_behind is js h
+distinct_behind (item.Byte b ∷ is) js h = distinct_behind is js h
+distinct_behind (item.Jump c d ∷ is) js h = distinct_behind is js h
+distinct_behind (item.Label l ∷ is) js h = distinct_behind is js h.1
+
+module _ (valid : CodeValid) where
+  pub closing_valid : (next : Dest) → AreValid (closing_items register_homes next)
+  closing_valid next = valid_behind (opening_items register_homes 0) (closing_items register_homes next) (valid.island register_homes tt [] 0 next)
+
+  pub closing_distinct : (next : Dest) → AreDistinct (closing_items register_homes next)
+  closing_distinct next = distinct_behind (opening_items register_homes 0) (closing_items register_homes next) (valid.labels register_homes [] 0 next)
+
+  entry_valid : (entry : ℕ) (b : Bool) → AreValid (entry_items entry b)
+  entry_valid entry true = closing_valid (dests.Block entry)
+  entry_valid entry false = (tt, tt)
+
+  entry_distinct : (entry : ℕ) (b : Bool) → AreDistinct (entry_items entry b)
+  entry_distinct entry true = closing_distinct (dests.Block entry)
+  entry_distinct entry false = tt
+
+  pub entry_stands : (exe : Exe) (edges : List Edge) → IsLinked (coded_of exe edges).code (address_of exe edges) CODE_START (entry_of exe edges)
+  entry_stands exe edges = record {
+    front = [];
+    behind = bytes_from (address_of exe edges) (first_at (entry_of exe edges)) (fragments_of exe (keys_of exe edges));
+    bytes = same_bytes exe edges ∙ whole exe edges;
+    place = omega arith;
+    valid = entry_valid exe.entry (has_key (keys_of exe edges) exe.entry);
+    distinct = entry_distinct exe.entry (has_key (keys_of exe edges) exe.entry);
+  }
+
+pub code_stands : JumpLengths → CodeValid → CodeStands
+code_stands laws valid = record {
+  known = known;
+  bytes = same_bytes;
+  entry = entry_stands valid;
+  fragment = stands laws;
+  inside = inside laws;
+}

@@ -1,0 +1,8 @@
+//! Laws of written files: the file of an original and edges has what the simulation of a written file asks for.
+#![tactic(auto)]
+
+mod serves;
+mod stands;
+
+pub use serves::{codings_serve, lifted_blocks};
+pub use stands::code_stands;
