@@ -1,6 +1,16 @@
 //! The code of one block: its lines, the ways to known blocks, and the side exits to the original.
 #![tactic(auto)]
 
+mod assemble;
+mod choices;
+mod exits;
 mod fragment;
+mod lines;
+mod moves;
+mod prepared;
 
-pub use fragment::{Fix, JUMP_SLOT, MAX_EXITS};
+pub use assemble::{Assembled, assemble};
+pub use fragment::{Fix, Fragment, JUMP_SLOT, MAX_EXITS, make};
+
+#[cfg(test)]
+mod tests;
