@@ -1,0 +1,9 @@
+mod Checked
+mod Named
+mod Placing
+mod Served
+mod Steps
+mod Body
+mod Stub
+mod Way
+mod Whole
