@@ -1,5 +1,5 @@
 -- Sets that grow stay under the live sets, until nothing waits.
-use Rattle.std.proofs.Common.{◌≡◌, ℕ, zero, suc, ◌+◌, ◌*◌, ◌^◌, ◌<◌, ◌≤◌, ◌⊎◌, Bool, true, false, List, [], ◌∷◌, ◌++◌, length, get_or, set, sum, inl, inr, sym, ap, subst, ◌∙◌, refl, arith, ⊎_elim, length-set, length-append}
+use Rattle.std.proofs.Common.{◌≡◌, ℕ, zero, suc, ◌+◌, ◌-◌, ◌*◌, ◌^◌, ◌<◌, ◌≤◌, ◌⊎◌, Bool, true, false, List, [], ◌∷◌, ◌++◌, length, get_or, set, sum, inl, inr, sym, ap, subst, ◌∙◌, refl, arith, ⊎_elim, length-set, length-append}
 use Rattle.std.specs.Prelude.{◌&&◌, ◌||◌, bit_or, bit_and}
 use Rattle.std.proofs.lemmas.Bool.{cases_eq, cases_lt}
 use Rattle.std.proofs.lemmas.Nat.{le_or_l}
@@ -161,7 +161,18 @@ module _ (rows : List LiveRow) where
   pub finish : (sets : List ℕ) → ((k : ℕ) → get_or sets k 0 < 2 ^ 16) → IsUnder rows sets [] → sets ≡ live_in rows
   finish sets small h = live_is rows sets h.each small (λ i v l m. same_truth _ _ (h.sound i v) (has_rounds sets h (length rows) i v))
 
+-- the same fact of the same places
+pub grows_as : (rows : List LiveRow) (s : ℕ) (done done' old new waits queue : List ℕ) → done ≡ done' → Grows rows s done old new waits queue → Grows rows s done' old new waits queue
+grows_as rows s done done' old new waits queue f g = let Q : List ℕ → Type 0 = λ t. Grows rows s t old new waits queue in subst Q f g
+
+pub empty_of : (xs : List ℕ) → length xs ≡ 0 → xs ≡ []
+empty_of [] e = refl
+empty_of (x ∷ xs) e = absurd (omega arith)
+
 -- ---- how much can still grow
+pub smaller : (n m k w q a b : ℕ) → n ≡ m → a ≤ m * 65535 → b ≤ n * 65535 → k ≡ w + 1 → q + 2 * a ≤ w + 2 * b → 2 * (65536 * n - b) + q < 2 * (65536 * m - a) + k
+smaller n m k w q a b e u l f c = omega arith
+
 pub sum_most : (sets : List ℕ) → ((i : ℕ) → get_or sets i 0 < 65536) → sum sets ≤ length sets * 65535
 sum_most sets fits = sum_by-le (λ s. s) 65535 sets (All-from_get_or (λ s. s ≤ 65535) sets 0 (λ i l. omega (arith, fits i)))
 
