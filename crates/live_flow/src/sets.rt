@@ -94,7 +94,13 @@ fn settle(
 {
     while let Some(place) = queue.pop() {
         let set = sets[place as usize];
-        hand_on(rows, set, links[place as usize].as_slice(), sets, &mut queue)?;
+        hand_on(
+            rows,
+            set,
+            links[place as usize].as_slice(),
+            sets,
+            &mut queue,
+        )?;
     }
     Ok(())
 }
