@@ -49,13 +49,13 @@ tick_is : (b : Bool) → (bit_at (tick b) 0 == 1) ≡ b
 tick_is true = refl
 tick_is false = refl
 
+below_next : (b : Bool) (k g : ℕ) → g < 2 ^ k → (if b then 2 ^ k else 0) + g < 2 ^ suc k
+below_next true k g l = let e : 2 ^ suc k ≡ 2 ^ k * 2 = pow-suc 2 k in omega arith
+below_next false k g l = let e : 2 ^ suc k ≡ 2 ^ k * 2 = pow-suc 2 k in omega arith
+
 pub gathered_below : (set : ℕ → Bool) (k : ℕ) → gathered set k < 2 ^ k
 gathered_below set zero = omega arith
-gathered_below set (suc k) = go (set k)
-  where
-    go : (b : Bool) → (if b then 2 ^ k else 0) + gathered set k < 2 ^ suc k
-    go true = let e : 2 ^ suc k ≡ 2 ^ k * 2 = pow-suc 2 k in let l = gathered_below set k in omega arith
-    go false = let e : 2 ^ suc k ≡ 2 ^ k * 2 = pow-suc 2 k in let l = gathered_below set k in omega arith
+gathered_below set (suc k) = below_next (set k) k (gathered set k) (gathered_below set k)
 
 pub gathered_has : (set : ℕ → Bool) (k v : ℕ) → v < k → has (gathered set k) v ≡ set v
 gathered_has set zero v l = absurd (omega arith)

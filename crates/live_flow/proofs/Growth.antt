@@ -1,5 +1,5 @@
 -- Sets that grow stay under the live sets, until nothing waits.
-use Rattle.std.proofs.Common.{◌≡◌, ℕ, zero, suc, ◌+◌, ◌*◌, ◌^◌, ◌<◌, ◌≤◌, ◌⊎◌, Bool, true, false, List, [], ◌∷◌, ◌++◌, length, get_or, set, sum, inl, inr, sym, ap, subst, ◌∙◌, refl, arith, ⊎_elim, length-set, length-append}
+use Rattle.std.proofs.Common.{◌≡◌, ℕ, zero, suc, ◌+◌, ◌-◌, ◌*◌, ◌^◌, ◌<◌, ◌≤◌, ◌⊎◌, Bool, true, false, List, [], ◌∷◌, ◌++◌, length, get_or, set, sum, inl, inr, sym, ap, subst, ◌∙◌, refl, arith, ⊎_elim, length-set, length-append}
 use Rattle.std.specs.Prelude.{◌&&◌, ◌||◌, bit_or, bit_and}
 use Rattle.std.proofs.lemmas.Bool.{cases_eq, cases_lt}
 use Rattle.std.proofs.lemmas.Nat.{le_or_l}
@@ -55,7 +55,7 @@ module _ (rows : List LiveRow) (s : ℕ) where
   taken sets queue p l ne =
       let new : List ℕ = set sets p (grown sets p) in
       let same : get_or new p 0 ≡ grown sets p = get_or-set_same sets p (grown sets p) 0 l in
-      let other : (k : ℕ) → (k ≡ p → ⊥) → get_or new k 0 ≡ get_or sets k 0 = λ k d. get_or-set_other sets k p (grown sets p) 0 d in
+      let other : (k : ℕ) → (k ≡ p → ⊥) → get_or new k 0 ≡ get_or sets k 0 = λ k d. get_or-set_other sets p k (grown sets p) 0 d in
       let at : (k v : ℕ) → k ≡ p → has (get_or new k 0) v ≡ has (grown sets p) v = λ k v e. ap (λ j. has (get_or new j 0) v) e ∙ ap (λ t. has t v) same in
       let past : (k v : ℕ) → (k ≡ p → ⊥) → has (get_or new k 0) v ≡ has (get_or sets k 0) v = λ k v d. ap (λ t. has t v) (other k d) in
       record {
@@ -71,6 +71,17 @@ module _ (rows : List LiveRow) (s : ℕ) where
         within = λ k h. ⊎_elim (λ a. inl a) (λ e. inr (inl e)) (among_split queue p k h);
         cost = omega (arith, sum_by-set (λ x. x) sets p (grown sets p) 0 l, le_or_l (get_or sets p 0) (bit_and (row_at rows p).passes s), length-append queue (p ∷ []));
       }
+
+  -- the same, with the row as it was read
+  pub taken_as : (sets queue more : List ℕ) (p : ℕ) (r : LiveRow) → p < length sets → row_at rows p ≡ r → (bit_or (get_or sets p 0) (bit_and r.passes s) ≡ get_or sets p 0 → ⊥) → more ≡ queue ++ p ∷ [] → Grows rows s (p ∷ []) sets (set sets p (bit_or (get_or sets p 0) (bit_and r.passes s))) queue more
+  taken_as sets queue more p r l e ne q =
+      let as' : grown sets p ≡ bit_or (get_or sets p 0) (bit_and r.passes s) = ap (λ (t : LiveRow). bit_or (get_or sets p 0) (bit_and t.passes s)) e in
+      let P : ℕ → Type 0 = λ t. Grows rows s (p ∷ []) sets (set sets p t) queue more in
+      let Q : List ℕ → Type 0 = λ t. Grows rows s (p ∷ []) sets (set sets p (grown sets p)) queue t in
+      subst P as' (subst Q (sym q) (taken sets queue p l (λ z. ne (sym as' ∙ z))))
+
+  pub left_as : (sets queue : List ℕ) (p : ℕ) (r : LiveRow) → row_at rows p ≡ r → bit_or (get_or sets p 0) (bit_and r.passes s) ≡ get_or sets p 0 → Grows rows s (p ∷ []) sets sets queue queue
+  left_as sets queue p r e q = left sets queue p (ap (λ (t : LiveRow). bit_or (get_or sets p 0) (bit_and t.passes s)) e ∙ q)
 
   -- one after another
   pub grows_more : (done a b c w q r : List ℕ) (p : ℕ) → Grows rows s done a b w q → Grows rows s (p ∷ []) b c q r → Grows rows s (done ++ p ∷ []) a c w r
@@ -100,7 +111,7 @@ module _ (rows : List LiveRow) where
     within = in';
     sound = λ k v z. ⊎_elim
         (λ l. start_kept rows (length rows) k v (sym (h k v l) ∙ z))
-        (λ g. absurd (let y : has (get_or sets k 0) v ≡ false = ap (λ t. has t v) (get_or_past k sets 0 (omega arith)) ∙ has_none v in cc))
+        (λ g. absurd (let y : has (get_or sets k 0) v ≡ false = ap (λ t. has t v) (get_or_past sets k 0 (omega arith)) ∙ has_none v in cc))
         (cases_lt k (length rows));
     needed = λ k v l z. h k v l ∙ z;
     handed = λ p j v l a m z. inl (all j (starts p j a));
@@ -150,6 +161,26 @@ module _ (rows : List LiveRow) where
   pub finish : (sets : List ℕ) → ((k : ℕ) → get_or sets k 0 < 2 ^ 16) → IsUnder rows sets [] → sets ≡ live_in rows
   finish sets small h = live_is rows sets h.each small (λ i v l m. same_truth _ _ (h.sound i v) (has_rounds sets h (length rows) i v))
 
+-- the same fact of the same places
+pub grows_as : (rows : List LiveRow) (s : ℕ) (done done' old new waits queue : List ℕ) → done ≡ done' → Grows rows s done old new waits queue → Grows rows s done' old new waits queue
+grows_as rows s done done' old new waits queue f g = let Q : List ℕ → Type 0 = λ t. Grows rows s t old new waits queue in subst Q f g
+
+pub empty_of : (xs : List ℕ) → length xs ≡ 0 → xs ≡ []
+empty_of [] e = refl
+empty_of (x ∷ xs) e = absurd (omega arith)
+
 -- ---- how much can still grow
+pub smaller : (n m k w q a b : ℕ) → n ≡ m → a ≤ m * 65535 → b ≤ n * 65535 → k ≡ w + 1 → q + 2 * a ≤ w + 2 * b → 2 * (65536 * n - b) + q < 2 * (65536 * m - a) + k
+smaller n m k w q a b e u l f c = omega arith
+
 pub sum_most : (sets : List ℕ) → ((i : ℕ) → get_or sets i 0 < 65536) → sum sets ≤ length sets * 65535
 sum_most sets fits = sum_by-le (λ s. s) 65535 sets (All-from_get_or (λ s. s ≤ 65535) sets 0 (λ i l. omega (arith, fits i)))
+
+-- what a row needs, by the way that its fallback goes
+pub needed_then : (x f : Bool) → f ≡ true → x ≡ (x && f)
+needed_then true f e = sym e
+needed_then false f e = refl
+
+pub needed_else : (x f : Bool) → f ≡ false → false ≡ (x && f)
+needed_else true f e = sym e
+needed_else false f e = refl

@@ -1,7 +1,7 @@
 -- Lists of the rows that lead to a row, one more place after another.
-use Rattle.std.proofs.Common.{◌≡◌, ℕ, zero, suc, ◌+◌, ◌<◌, ◌⊎◌, List, [], ◌∷◌, ◌++◌, length, get_or, set, inl, inr, sym, ap, subst, ◌∙◌, refl, arith, ⊎_elim, length-set}
+use Rattle.std.proofs.Common.{◌≡◌, ℕ, zero, suc, ◌+◌, ◌<◌, ◌⊎◌, List, [], ◌∷◌, ◌++◌, length, get_or, set, map, take, inl, inr, sym, ap, subst, ◌∙◌, refl, arith, ⊎_elim, length-set}
 use Rattle.std.proofs.lemmas.Bool.{cases_eq}
-use Rattle.std.proofs.lemmas.List.{get_or-set_same, get_or-set_other}
+use Rattle.std.proofs.lemmas.List.{get_or-set_same, get_or-set_other, map_more}
 use Rattle.live_flow.specs.declared.row.LiveRow.{LiveRow}
 use Rattle.live_flow.specs.Live.{ways, NextAreStarts, IsAmong}
 use Rattle.live_flow.specs.Links.{HasLinks, AddsLinks, LinksBelow}
@@ -20,7 +20,7 @@ pub adds_more : (to : List ℕ) (p at : ℕ) (old mid new : List (List ℕ)) →
 adds_more to p at old mid new l is h =
     let more : List ℕ = get_or mid at [] ++ p ∷ [] in
     let same : get_or new at [] ≡ more = ap (λ t. get_or t at []) is ∙ get_or-set_same mid at more [] l in
-    let other : (i : ℕ) → (i ≡ at → ⊥) → get_or new i [] ≡ get_or mid i [] = λ i ne. ap (λ t. get_or t i []) is ∙ get_or-set_other mid i at more [] ne in
+    let other : (i : ℕ) → (i ≡ at → ⊥) → get_or new i [] ≡ get_or mid i [] = λ i ne. ap (λ t. get_or t i []) is ∙ get_or-set_other mid at i more [] ne in
     let n : length new ≡ length mid = ap length is ∙ length-set mid at more in
     let long = h.each in
     record {
@@ -41,6 +41,15 @@ adds_more to p at old mid new l is h =
           (λ ne. subst P (sym (other i ne)) (h.added i k (⊎_elim (λ a. a) (λ z. absurd (ne (sym z))) (among_split to at i t))))
           (cases_eq i at);
     }
+
+-- one known exit of a row more
+pub row_more : (f : ℕ → ℕ) (next slice : List ℕ) (k p at : ℕ) (old mid new : List (List ℕ)) → slice ≡ next → k < length slice → at ≡ f (get_or slice k 0) → at < length mid → new ≡ set mid at (get_or mid at [] ++ p ∷ []) → AddsLinks (map f (take k next)) p old mid → AddsLinks (map f (take (k + 1) next)) p old new
+row_more f next slice k p at old mid new s l e m is h =
+    let n = ap length s in
+    let more = map_more f next k 0 (omega arith) in
+    let a : at ≡ f (get_or next k 0) = e ∙ ap (λ t. f (get_or t k 0)) s in
+    let P : List ℕ → Type 0 = λ t. AddsLinks t p old new in
+    subst P (ap (λ x. map f (take k next) ++ x ∷ []) a ∙ sym more) (adds_more (map f (take k next)) p at old mid new m is h)
 
 pub links_none : (rows : List LiveRow) (links : List (List ℕ)) → length links ≡ length rows → ((i : ℕ) → get_or links i [] ≡ []) → LinksBelow rows 0 links
 links_none rows links e h = record {

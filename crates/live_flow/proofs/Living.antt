@@ -147,9 +147,9 @@ are_live rows = record {
   passes = λ i v j p m e. stable rows v i (or_right (is_live rows i v) _ (both _ _ p (any_among (is_live rows) v _ j m e)));
 }
 
-pub long_walks : (rows : List LiveRow) (n i v : ℕ) → Walk rows v n i → is_live rows i v ≡ true
-long_walks rows n i v (Here _ _ e) = start_kept rows (length rows) i v e
-long_walks rows (suc n) i v (There _ _ j p m w) = (are_live rows).passes i v j p m (long_walks rows n j v w)
+pub long_walks : (rows : List LiveRow) (v n i : ℕ) → Walk rows v n i → is_live rows i v ≡ true
+long_walks rows v n i (Here _ _ e) = start_kept rows (length rows) i v e
+long_walks rows v (suc n) i (There _ _ j p m w) = (are_live rows).passes i v j p m (long_walks rows v n j w)
 
 pub walk_law : (rows : List LiveRow) (i v : ℕ) → (is_live rows i v ≡ true) ↔ Walk rows v (length rows) i
 walk_law rows i v = ((λ e. walks rows (length rows) i v e), (λ w. walked rows v (length rows) i w))

@@ -101,7 +101,8 @@ fn none(alloc: Global, count: usize) -> Result<Vec<Places>, AllocError>
 {
     let mut links = Vec::new(alloc);
     for _ in 0..count {
-        links.push(Places::new(alloc))?;
+        let empty = Places::new(alloc);
+        links.push(empty)?;
     }
     Ok(links)
 }

@@ -128,7 +128,11 @@ fn is_own(register: usize, out: Val) -> bool
 fn moved(register: usize, out: Val) -> u16
     ensures { result ≡ (if is_own register out then 0 else val_set out) }
 {
-    if is_own(register, out) { 0 } else { val_set(out) }
+    if is_own(register, out) {
+        0
+    } else {
+        val_set(out)
+    }
 }
 
 /// What the out of its own register adds.

@@ -5,7 +5,7 @@ ghost use Rattle.live_flow.specs.Live.{row_at, needed_at, live_in, StartsAscend,
 ghost use Rattle.live_flow.specs.Links.{AreLinks};
 ghost use Rattle.live_flow.specs.Growing.{In, Grows, IsUnder};
 
-use crate::links::links_of;
+use crate::links::{Places, links_of};
 use crate::row::LiveRow;
 use std::alloc::{AllocError, Global};
 
@@ -81,6 +81,30 @@ fn all_places(alloc: Global, count: usize) -> Result<Vec<u32>, AllocError>
     Ok(places)
 }
 
+/// Hands sets on until none waits.
+fn settle(
+    rows: &[LiveRow],
+    links: &[Places],
+    sets: &mut [u16],
+    mut queue: Vec<u32>,
+) -> Result<(), AllocError>
+    requires links { AreLinks rows.now links.now }
+    requires under { IsUnder rows.now sets.old queue.items }
+    ensures { OnOk result (sets.new ≡ live_in rows.now) }
+{
+    while let Some(place) = queue.pop() {
+        let set = sets[place as usize];
+        hand_on(
+            rows,
+            set,
+            links[place as usize].as_slice(),
+            sets,
+            &mut queue,
+        )?;
+    }
+    Ok(())
+}
+
 /// The set of the registers that are live at each row. A row whose set grows waits in a queue until the rows that lead to it have taken
 /// over what they hand on; so each set is looked at once for each time that it grew, at most 14 times, and for each row that leads to it.
 ///
@@ -93,11 +117,7 @@ pub fn live(alloc: Global, rows: &[LiveRow]) -> Result<Vec<u16>, AllocError>
 {
     let links = links_of(alloc, rows)?;
     let mut sets = all_needed(alloc, rows)?;
-    let mut queue = all_places(alloc, rows.len())?;
-    while let Some(place) = queue.pop() {
-        let set = sets[place as usize];
-        let before = links[place as usize].as_slice();
-        hand_on(rows, set, before, sets.as_mut_slice(), &mut queue)?;
-    }
+    let queue = all_places(alloc, rows.len())?;
+    settle(rows, links.as_slice(), sets.as_mut_slice(), queue)?;
     Ok(sets)
 }

@@ -54,7 +54,16 @@ fn copies_and_constants_go(rt: HostRuntime) -> Result<(), Fail> {
         assert!(rt; matches!(*line, Line::Gone));
     }
     let sum = list.as_slice().get(4).copied();
-    assert!(rt; matches!(sum, Some(Line::Bin { op: BinOp::Add, a: Val::Param(1), b: Val::Param(0) })));
+    assert!(rt;
+        matches!(
+            sum,
+            Some(Line::Bin {
+                op: BinOp::Add,
+                a: Val::Param(1),
+                b: Val::Param(0)
+            })
+        )
+    );
     Ok(())
 }
 

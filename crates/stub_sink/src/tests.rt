@@ -65,9 +65,25 @@ fn a_carry_sinks_and_its_sum_stays(rt: HostRuntime) -> Result<(), Fail> {
     let block = some_block(alloc, Exit::Way(Val::Line(2)))?;
     assert!(rt; check_block(&block));
     // eax is live, the flags are written first; the load of a side exit stays before later stores
-    assert!(rt; splits(alloc, &block, 1, [true, false, true, true], [false, true, false, false])?);
+    assert!(rt;
+        splits(
+            alloc,
+            &block,
+            1,
+            [true, false, true, true],
+            [false, true, false, false]
+        )?
+    );
     // nothing is live
-    assert!(rt; splits(alloc, &block, 0, [false, false, true, true], [true, true, false, false])?);
+    assert!(rt;
+        splits(
+            alloc,
+            &block,
+            0,
+            [false, false, true, true],
+            [true, true, false, false]
+        )?
+    );
     Ok(())
 }
 
@@ -78,6 +94,14 @@ fn nothing_sinks_without_a_side_exit(rt: HostRuntime) -> Result<(), Fail> {
     let none = [false, false, false, false];
     assert!(rt; splits(alloc, &known, 1, [true, false, false, false], none)?);
     let other = some_block(alloc, Exit::Jump(0x0804_8061))?;
-    assert!(rt; splits(alloc, &other, 1, [true, false, false, true], [false, true, false, false])?);
+    assert!(rt;
+        splits(
+            alloc,
+            &other,
+            1,
+            [true, false, false, true],
+            [false, true, false, false]
+        )?
+    );
     Ok(())
 }
