@@ -4,3 +4,4 @@ pub mod RowsShow
 pub mod IndexOf
 pub mod Ascending
 pub mod OneList
+pub mod Applied

@@ -6,6 +6,8 @@ use Rattle.std.specs.List.Sorted.{IsStrictlyIncreasing}
 use Rattle.elf_read.specs.declared.exe.Exe.{Exe}
 use Rattle.elf_read.specs.Elf.{is_exec}
 use Rattle.run_model.specs.Edges.{Edge}
+use Rattle.trace_file.specs.Edges.{merge, without, IsInOrder}
+use Rattle.block_cut.specs.CountedEdges.{counting}
 use Rattle.block_cut.specs.declared.ends.End.{End}
 use Rattle.block_cut.specs.declared.ends.End.TheVariants.{Transfer, Unreadable}
 use Rattle.block_cut.specs.declared.ends.Cut.{Cut}
@@ -113,3 +115,13 @@ AreCutsOf exe g = g.cuts ≡ map (cut_in exe) g.nodes
 -- how far the block of an index goes
 abbrev pub cut_at : GraphView → ℕ → Cut
 cut_at g i = slice_index_or g.cuts i (record { count = 0; len = 0; end = Unreadable; last = 0 })
+
+-- ---- edges that come and go
+
+-- edges without those that are gone and with those that are added
+abbrev pub applied : List Edge → List Edge → List Edge → List Edge
+applied added gone es = merge added (without gone es)
+
+-- from the edges of any set that count come the edges of the changed set that count
+abbrev pub Applies : Exe → List Edge → List Edge → List Edge → List Edge → Type 0
+Applies exe old added gone new = (es : List Edge) → IsInOrder es → old ≡ counting exe es → new ≡ counting exe (applied added gone es)

@@ -8,7 +8,7 @@ use block_cut::Cut;
 use elf_read::Exe;
 use std::alloc::Global;
 use std::marker::Model;
-use trace_file::Edges;
+use trace_file::{Edges, sets_hold};
 
 /// The control-flow graph of an executable and a set of edges (docs/GRAPH.md): at most [`MAX_BLOCKS`]
 /// blocks. It is seen as the edges that count, ascending, the list of its blocks, each with its start and its
@@ -33,12 +33,13 @@ impl Model for Graph {
 }
 
 impl Graph {
-    ghost use Rattle.std.specs.Prelude.{◌≡◌, ℕ, ◌<◌, ◌≤◌, ◌↔◌, IfOk, IfErr, Some, length};
+    ghost use Rattle.std.specs.Prelude.{◌≡◌, ℕ, ◌+◌, ◌<◌, ◌≤◌, ◌↔◌, IfOk, IfErr, OnOk, OnErr, Some, length};
     ghost use Rattle.elf_read.specs.declared.exe.Exe.{Exe};
     ghost use Rattle.elf_read.specs.Elf.{IsGuest};
-    ghost use Rattle.trace_file.specs.Edges.{IsEdges};
+    ghost use Rattle.trace_file.specs.Edges.{IsEdges, without};
+    ghost use Rattle.trace_file.specs.declared.limits.TheConstants.{EDGE_LIMIT};
     ghost use Rattle.block_cut.specs.CountedEdges.{counting};
-    ghost use Rattle.flow_graph.specs.Graph.{IsGraph, AreCode, HasTooMany, StartsAt, AreCutsOf, node_at, cut_in, cut_at};
+    ghost use Rattle.flow_graph.specs.Graph.{IsGraph, AreCode, HasTooMany, StartsAt, AreCutsOf, node_at, cut_in, cut_at, applied, Applies};
     ghost use Rattle.flow_graph.specs.declared.error.GraphError.TheVariants.{Blocks};
 
     /// The graph of an executable and edges. Its work grows with their number, and the number and length
@@ -73,6 +74,44 @@ impl Graph {
             rows,
             targets,
         })
+    }
+
+    /// Makes this graph of an executable the graph of its edges without those that are `gone` and with those
+    /// that are `added`, of at most [`EDGE_LIMIT`](trace_file::EDGE_LIMIT) together, an edge of both counted
+    /// twice.
+    ///
+    /// Errors: [`GraphError::Blocks`] exactly where it would have more than [`MAX_BLOCKS`] blocks, and
+    /// [`GraphError::Memory`] for want of memory. After an error the graph is as before.
+    pub fn apply(
+        &mut self,
+        alloc: Global,
+        exe: &Exe,
+        added: &Edges,
+        gone: &Edges,
+    ) -> Result<(), GraphError>
+        requires guest { IsGuest exe.now }
+        requires graph { IsGraph exe.now self.old.edges self.old.nodes }
+        requires cuts { AreCutsOf exe.now self.old }
+        requires room { length added.now + length (without gone.now self.old.edges) ≤ EDGE_LIMIT }
+        ensures edges { OnOk result (self.new.edges ≡ counting exe.now (applied added.now gone.now self.old.edges)) }
+        ensures set { OnOk result (Applies exe.now self.old.edges added.now gone.now self.new.edges) }
+        ensures graph { OnOk result (IsGraph exe.now self.new.edges self.new.nodes) }
+        ensures cuts { OnOk result (AreCutsOf exe.now self.new) }
+        ensures code { OnOk result (AreCode exe.now self.new.nodes) }
+        ensures few { OnOk result (length self.new.nodes ≤ MAX_BLOCKS) }
+        ensures many { IfErr result (λ e. e ≡ Blocks → HasTooMany exe.now (counting exe.now (applied added.now gone.now self.old.edges))) }
+        ensures err { OnErr result (self.new ≡ self.old) }
+    {
+        let old = Edges::of_list(self.edges.as_slice().to_vec(alloc)?);
+        let rest = old.without(gone)?;
+        let all = added.union(&rest)?;
+        let _ = added.len();
+        sets_hold();
+        match Graph::of(alloc, exe, &all) {
+            Ok(graph) => *self = graph,
+            Err(e) => return Err(e),
+        }
+        Ok(())
     }
 
     /// The edges that count, each by its site and its target, both addresses, ascending by the site and then

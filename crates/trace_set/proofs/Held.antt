@@ -1,12 +1,12 @@
 -- What the two lists of a set of traces show.
-use Rattle.std.proofs.Common.{◌≡◌, ℕ, zero, suc, ◌+◌, ◌-◌, ◌<◌, ◌≤◌, Bool, true, false, cond, eqb, ltb, leb, ◌&&◌, ◌||◌, List, [], ◌∷◌, ◌++◌, length, get_or, take, drop, Option, Some, None, inl, inr, refl, ap, sym, subst, ◌∙◌, arith}
-use Rattle.std.specs.Prelude.{Contains}
+use Rattle.std.proofs.Common.{◌≡◌, ℕ, zero, suc, ◌+◌, ◌<◌, ◌≤◌, Bool, true, false, cond, eqb, ◌&&◌, List, [], ◌∷◌, ◌++◌, length, get_or, drop, Some, None, inl, inr, refl, ap, sym, ◌∙◌, arith}
+use Rattle.std.specs.Prelude.{Contains, IsTrue, ◌↔◌}
 use Rattle.std.specs.List.{remove}
 use Rattle.std.proofs.lemmas.Bool.{cases_Bool, eqb-true, eq-eqb, ne_eqb, le-leb, lt-leb, lt-ltb, le-ltb}
+use Rattle.std.proofs.lemmas.List.{drop_more, get_or_default}
 use Rattle.trace_file.specs.Edges.{Edge, same, has, pairs}
-use Rattle.trace_set.specs.declared.error.SetError.{SetError}
 use Rattle.trace_set.specs.declared.error.SetError.TheVariants as refusals
-use Rattle.trace_set.specs.Traces.{Traces, sets_of, count_of, is_live, edges_of, without_number, refusal, with_trace, numbered, IsHeld, IsFirst}
+use Rattle.trace_set.specs.Traces.{Traces, sets_of, count_of, is_live, without_number, refusal, numbered, IsHeld, IsFirst}
 
 -- ---- the lists
 
@@ -27,10 +27,6 @@ numbered_push [] [] n es h = refl
 numbered_push [] (fs ∷ sets) n es h = absurd (omega (arith, h))
 numbered_push (m ∷ ns) [] n es h = absurd (omega (arith, h))
 numbered_push (m ∷ ns) (fs ∷ sets) n es h = ap (λ (t : List (ℕ × List Edge)). (m, fs) ∷ t) (numbered_push ns sets n es (omega (arith, h)))
-
-pub pairs_push : (sets : List (List Edge)) (es : List Edge) → pairs (sets ++ es ∷ []) ≡ pairs sets + length es
-pairs_push [] es = omega arith
-pairs_push (fs ∷ sets) es = let r : pairs (sets ++ es ∷ []) ≡ pairs sets + length es = pairs_push sets es in omega (arith, r)
 
 -- ---- one taken out
 
@@ -57,16 +53,6 @@ is_nowhere [] sets n f = refl
 is_nowhere (m ∷ ns) [] n f = refl
 is_nowhere (m ∷ ns) (es ∷ sets) n f =
     rw (ne_eqb m n (λ e. f (0, omega arith, e))) (is_nowhere ns sets n (λ c. f (suc c.0, omega (arith, c.1), c.2)))
-
-pub pairs_removed : (sets : List (List Edge)) (at : ℕ) (d : List Edge) → at < length sets → pairs (remove sets at) + length (get_or sets at d) ≡ pairs sets
-pairs_removed [] at d l = absurd (omega (arith, l))
-pairs_removed (es ∷ sets) zero d l = omega arith
-pairs_removed (es ∷ sets) (suc at) d l = let r : pairs (remove sets at) + length (get_or sets at d) ≡ pairs sets = pairs_removed sets at d (omega (arith, l)) in omega (arith, r)
-
-pub length_removed : {X : Type 0} (xs : List X) (at : ℕ) → at < length xs → length (remove xs at) + 1 ≡ length xs
-length_removed [] at l = absurd (omega (arith, l))
-length_removed (x ∷ xs) zero l = omega arith
-length_removed (x ∷ xs) (suc at) l = let r : length (remove xs at) + 1 ≡ length xs = length_removed xs at (omega (arith, l)) in omega (arith, r)
 
 -- ---- refusals
 
@@ -126,3 +112,38 @@ has_to e (a ∷ es) h = elim (cases_Bool (same a e)) [
   | inl t ↦ (0, omega arith, same_edge a e t)
   | inr f ↦ let k : has e es ≡ true = rw f at h in let c = has_to e es k in (suc c.0, (let l = c.1 in omega (arith, l)), c.2)
 ]
+
+-- what the test answers
+pub has_is : (r : Bool) (e : Edge) (es : List Edge) → (IsTrue r ↔ Contains es e) → r ≡ has e es
+has_is true e es h = sym (has_from e es (h.0 refl))
+has_is false e es h = elim (cases_Bool (has e es)) [
+  | inl t ↦ absurd (let n : false ≡ true = h.1 (has_to e es t) in cc)
+  | inr f ↦ sym f
+]
+
+-- one more set counted
+pub count_turn : (e : Edge) (sets : List (List Edge)) (i : ℕ) (d : List Edge) (n m whole : ℕ) (r : Bool) → r ≡ has e (get_or sets i d) → i < length sets → m ≡ n + cond r 1 0 → n + count_of e (drop i sets) ≡ whole → m + count_of e (drop (i + 1) sets) ≡ whole
+count_turn e sets i d n m whole r h l q w =
+    let c : count_of e (drop i sets) ≡ cond (has e (get_or sets i d)) 1 0 + count_of e (drop (i + 1) sets) = ap (count_of e) (drop_more sets i d l) in
+    let p : m ≡ n + cond (has e (get_or sets i d)) 1 0 = q ∙ ap (λ (b : Bool). n + cond b 1 0) h in
+    omega (arith, c, p, w)
+
+-- a number that stands nowhere before the end
+pub nowhere : (ns : List ℕ) (at n : ℕ) → length ns ≤ at → ((k : ℕ) → k < at → get_or ns k 0 ≡ n → ⊥) → Contains ns n → ⊥
+nowhere ns at n l f c = f c.0 (let k = c.1 in omega (arith, k, l)) (get_or_default ns c.0 0 n c.1 ∙ c.2)
+
+pub found_at : (ns : List ℕ) (at n d : ℕ) → at < length ns → get_or ns at d ≡ n → ((k : ℕ) → k < at → get_or ns k 0 ≡ n → ⊥) → (at < length ns) × IsFirst at n ns
+found_at ns at n d l h f = (l, first_at ns at n l (get_or_default ns at n d l ∙ h) f)
+
+pub few_turn : (n m i : ℕ) (r : Bool) → m ≡ n + cond r 1 0 → n ≤ i → m ≤ i + 1
+few_turn n m i true h l = omega (arith, h, l)
+few_turn n m i false h l = omega (arith, h, l)
+
+pub nothing_left : (e : Edge) (sets : List (List Edge)) (i n whole : ℕ) → length sets ≤ i → n + count_of e (drop i sets) ≡ whole → n ≡ whole
+nothing_left e sets i n whole l h = let z : count_of e (drop i sets) ≡ 0 = ap (count_of e) (drop_past sets i l) in omega (arith, z, h)
+  where
+    drop_past : (xs : List (List Edge)) (i : ℕ) → length xs ≤ i → drop i xs ≡ []
+    drop_past [] zero l = refl
+    drop_past [] (suc i) l = refl
+    drop_past (x ∷ xs) zero l = absurd (omega (arith, l))
+    drop_past (x ∷ xs) (suc i) l = drop_past xs i (omega (arith, l))

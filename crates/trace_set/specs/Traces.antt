@@ -1,5 +1,5 @@
 -- A set of numbered traces, and what may be asked of it.
-use Rattle.std.specs.Prelude.{◌≡◌, ℕ, zero, suc, ◌+◌, ◌≤◌, ◌==◌, nat_le, nat_lt, Bool, true, false, ◌||◌, if◌then◌else◌, List, [], ◌∷◌, ◌++◌, length, map, Option, None, Some, Result, Ok, Err}
+use Rattle.std.specs.Prelude.{◌≡◌, ℕ, zero, suc, ◌+◌, ◌≤◌, ◌==◌, nat_le, nat_lt, Bool, true, false, ◌||◌, if◌then◌else◌, List, [], ◌∷◌, ◌++◌, length, Option, None, Some, Result, Ok, Err}
 use Rattle.trace_file.specs.Edges.{Edge, has, pairs}
 use Rattle.trace_file.specs.declared.limits.TheConstants.{EDGE_LIMIT}
 use Rattle.trace_set.specs.declared.error.TheConstants.{TRACE_LIMIT, ADDITION_LIMIT}

@@ -1,6 +1,7 @@
 //! Live traces.
-ghost use Rattle.std.specs.Prelude.{◌≡◌, ◌+◌, ◌≤◌, [], ◌∷◌, ◌++◌, length, IfOk, OnOk, OnErr};
+ghost use Rattle.std.specs.Prelude.{◌≡◌, ◌+◌, ◌≤◌, ◌<◌, if◌then◌else◌, [], ◌∷◌, ◌++◌, length, IfOk, OnOk, OnErr};
 ghost use Rattle.trace_file.specs.Edges.{Edge, IsEdges, union_of};
+ghost use Rattle.trace_set.specs.declared.error.TheConstants.{TRACE_LIMIT};
 ghost use Rattle.trace_set.specs.Traces.{Traces, Adds, Removes, count_of, edges_of, sets_of};
 
 use crate::error::{ADDITION_LIMIT, SetError, TRACE_LIMIT, Unknown};
@@ -56,6 +57,14 @@ fn put(
         return Err(AllocError);
     }
     Ok(())
+}
+
+/// One more where the test holds.
+fn one_more_if(count: u32, holds: bool) -> u32
+    requires { count < TRACE_LIMIT }
+    ensures { result ≡ count + (if holds then 1 else 0) }
+{
+    if holds { count + 1 } else { count }
 }
 
 impl TraceSet {
@@ -122,9 +131,7 @@ impl TraceSet {
     {
         let mut count = 0;
         for set in self.sets.as_slice() {
-            if set.has(site, target) {
-                count += 1;
-            }
+            count = one_more_if(count, set.has(site, target));
         }
         count
     }

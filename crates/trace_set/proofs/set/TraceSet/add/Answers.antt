@@ -1,10 +1,8 @@
-use Rattle.std.proofs.Common.{◌≡◌, ℕ, ◌+◌, ◌-◌, ◌<◌, ◌≤◌, length, sym, subst, ap, refl, ◌∙◌, arith, get_or, true, false, List, [], ◌∷◌, ◌++◌, rules}
-use Rattle.std.proofs.Common.{Some, None}
-use Rattle.std.specs.Prelude.{Err}
+use Rattle.std.proofs.Common.{◌≡◌, ℕ, length, ap, refl, ◌∙◌, arith, List, [], ◌∷◌, ◌++◌, rules}
+use Rattle.std.proofs.Common.{None}
 use Rattle.std.proofs.lemmas.Grind.{common_steps}
 use Rattle.trace_file.specs.Edges.{Edge, pairs}
-use Rattle.trace_set.specs.declared.error.SetError.{SetError}
-use Rattle.trace_set.specs.Traces.{Traces, sets_of, refusal, with_trace, numbered, Adds}
+use Rattle.trace_set.specs.Traces.{Traces, sets_of, refusal, with_trace, numbered}
 use Rattle.trace_set.proofs.Held.{shown, traces_shown, pairs_shown, next_shown, refused_traces, refused_edges, refused_spent, not_refused, numbered_push, same_traces}
 use Rattle.trace_set.proofs.set.TraceSet.add.Goals as goal
 

@@ -1,4 +1,4 @@
-use Rattle.std.proofs.Common.{◌≡◌, ℕ, ◌+◌, ◌-◌, ◌<◌, ◌≤◌, length, sym, subst, ap, refl, ◌∙◌, arith, get_or, true, false, List, [], ◌∷◌, ◌++◌, rules}
+use Rattle.std.proofs.Common.{◌≡◌, sym, subst, ◌∙◌, List}
 use Rattle.std.specs.Prelude.{IfOk}
 use Rattle.trace_file.specs.Edges.{Edge, union_of}
 use Rattle.trace_set.proofs.Held.{sets_shown}
