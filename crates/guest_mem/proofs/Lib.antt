@@ -1,3 +1,9 @@
 pub mod Places
 pub mod Numbers
 pub mod Heaps
+pub mod Lists
+pub mod Paged
+pub mod Growing
+pub mod Borrowed
+pub mod Copies
+pub mod Apart

@@ -1,12 +1,13 @@
 //! The memory of a guest.
 
-ghost use Rattle.std.specs.Prelude.{◌≡◌, ◌+◌, ◌-◌, ◌^◌, ◌<◌, ◌≤◌, ◌++◌, ◌↔◌, true, length, take, drop, Some, None, option_map, is_some, IsSome, IfSome, IfOk, OnOk, OnErr};
+ghost use Rattle.std.specs.Prelude.{◌≡◌, ◌+◌, ◌-◌, ◌^◌, ◌<◌, ◌≤◌, ◌++◌, ◌↔◌, true, length, take, drop, map, Some, None, option_map, is_some, IsSome, IfSome, IfOk, OnOk, OnErr};
 ghost use Rattle.std.specs.List.{position};
+ghost use Rattle.std.specs.Borrow.{sem};
 ghost use Rattle.br_word.specs.Words.{bits_of, size_of};
 ghost use Rattle.br_word.specs.Memory.{Reads, Writes, Runs, bytes_at, written, load, store};
 ghost use Rattle.elf_read.specs.Elf.{IsGuest};
 ghost use Rattle.elf_read.specs.Regions.{opening_regions};
-ghost use Rattle.guest_mem.specs.Layout.{is_usable};
+ghost use Rattle.guest_mem.specs.Layout.{LieApart, is_usable, range};
 ghost use Rattle.guest_mem.specs.View.{with_regions, fetched, with_break};
 
 use crate::area::{Area, STACK_SIZE, size};
@@ -22,7 +23,7 @@ pub const HEAP_LIMIT: u32 = 67_108_864;
 pub const INSTRUCTION_LIMIT: usize = 15;
 
 /// The memory of a guest: its segments, its stack and its heap, which lies from the start of the
-/// break to the break.
+/// break to the break. The bytes of each region are held in pages, cut at the multiples of 4096.
 #[derive(Drop)]
 pub struct Memory {
     /// The segments in ascending order, the stack, the heap.
@@ -33,16 +34,19 @@ pub struct Memory {
 
 impl Model for Memory {
     ghost use Rattle.guest_mem.specs.View.{MemoryView};
-    ghost use Rattle.guest_mem.specs.Layout.{HasHeap};
+    ghost use Rattle.guest_mem.specs.Layout.{HasHeap, HaveRoom};
 
     ghost Value = { MemoryView };
 
     ghost view = { λ m. record { regions = m.areas.items; brk_start = m.brk_start; brk = m.brk } };
 
-    ghost invariant = { λ m. HasHeap m.brk_start m.brk m.areas.items };
+    ghost invariant = { λ m. HasHeap m.brk_start m.brk m.areas.items × HaveRoom m.brk_start m.areas.items };
 }
 
 impl Memory {
+    ghost use Rattle.guest_mem.specs.Pieces.{piece_size};
+    ghost use Rattle.guest_mem.specs.Lent.{LendsMemory};
+
     /// The memory in which a guest begins. The stack ends with `top`, of at most [`STACK_SIZE`] bytes, and is
     /// zero below it, and the heap is empty. The only error is want of memory.
     pub fn of(alloc: Global, exe: &Exe, top: &[u8]) -> Result<Memory, AllocError>
@@ -65,6 +69,13 @@ impl Memory {
             brk_start: exe.brk_start,
             brk: exe.brk_start,
         })
+    }
+
+    /// No address lies in two regions, and all lie below 2^32.
+    pub fn regions_lie_apart(&self)
+        ensures { LieApart (map range self.now.regions) }
+    {
+        let _start = self.brk_start;
     }
 
     /// The place of the region to which a read goes.
@@ -111,7 +122,7 @@ impl Memory {
         match self.write_place(at, from.len()) {
             None => false,
             Some(place) => {
-                self.areas[place].copy_in(at, from);
+                self.areas[place].copy_in(at as usize, from);
                 true
             }
         }
@@ -140,7 +151,7 @@ impl Memory {
             Some(place) => {
                 let area = &self.areas[place];
                 let count = area.left(at).min(INSTRUCTION_LIMIT);
-                area.copy_out(at, &mut into[..count]);
+                area.copy_out(at as usize, &mut into[..count]);
                 count as u8
             }
         }
@@ -166,7 +177,7 @@ impl Memory {
         ensures { option_map (take (length into.old)) (bytes_at Reads at (length into.old) self.now.regions) ≡ Some into.new }
     {
         if let Some(place) = self.read_place(at, into.len()) {
-            self.areas[place].copy_out(at, into);
+            self.areas[place].copy_out(at as usize, into);
         }
     }
 
@@ -177,6 +188,40 @@ impl Memory {
         ensures rest { self.new ≡ record self.old { regions = self.new.regions } }
     {
         self.write(at, from);
+    }
+
+    /// The bytes at an address up to the next multiple of 4096, `len` of them at most.
+    pub fn piece(&self, at: u32, len: u32) -> &[u8]
+        requires some { 0 < len }
+        requires allowed { is_some (bytes_at Reads at len self.now.regions) ≡ true }
+        ensures { option_map (take (piece_size at len)) (bytes_at Reads at len self.now.regions) ≡ Some result.now }
+    {
+        match self.read_place(at, len as usize) {
+            None => &[],
+            Some(place) => self.areas[place].piece(at as usize, len as usize),
+        }
+    }
+
+    /// The place of the region to which a write goes that is allowed.
+    fn some_write_place(&self, at: u32, len: u32) -> usize
+        requires { is_some (bytes_at Writes at len self.now.regions) ≡ true }
+        ensures { position (is_usable Writes at len) self.now.regions ≡ Some result }
+    {
+        match self.write_place(at, len as usize) {
+            None => 0,
+            Some(place) => place,
+        }
+    }
+
+    /// The same bytes, to be written. Once they are given back, memory is as before but for them, which are as they were left.
+    pub fn piece_mut(&mut self, at: u32, len: u32) -> &mut [u8]
+        requires some { 0 < len }
+        requires allowed { is_some (bytes_at Writes at len self.old.regions) ≡ true }
+        ensures* writes_back { sem 𝓛 (LendsMemory self.entry at len result) }
+        ensures value { option_map (take (piece_size at len)) (bytes_at Writes at len self.old.regions) ≡ Some result.now }
+    {
+        let place = self.some_write_place(at, len);
+        self.areas[place].piece_mut(at as usize, len as usize)
     }
 
     /// Moves the break, unless it would leave the [`HEAP_LIMIT`] bytes from its start, and answers the break

@@ -1,5 +1,5 @@
 -- What the calls come to, by the definition of each.
-use Rattle.std.proofs.Common.{◌≡◌, ℕ, ◌-◌, ◌%◌, ◌^◌, ◌<◌, ◌≤◌, Bool, true, false, nat_eq, if◌then◌else◌, List, [], ◌++◌, length, take, drop, get_or, map, Option, Some, None, IfSome, IsSome, option_map, Result, Ok, Err, refl, sym, ◌∙◌, ap, subst, arith, IsTrue, inl, inr}
+use Rattle.std.proofs.Common.{◌≡◌, ℕ, ◌-◌, ◌%◌, ◌^◌, ◌<◌, ◌≤◌, Bool, true, false, nat_eq, if◌then◌else◌, List, [], ◌++◌, length, take, drop, get_or, map, Option, Some, None, IfSome, IsSome, is_some, option_map, Result, Ok, Err, refl, sym, ◌∙◌, ap, subst, arith, IsTrue, inl, inr}
 use Rattle.std.proofs.lemmas.Bool.Decides.{nat_tests, leb_tells}
 use Rattle.std.proofs.lemmas.List.{append-nil, take_all, length-take, length-take-le}
 use Rattle.br_word.specs.declared.types.GuestFault.TheVariants.{Access}
@@ -17,9 +17,9 @@ use Rattle.guest_sys.specs.declared.answers.SysError.TheVariants.{Input, Out, Re
 use Rattle.br_outside.specs.Streams.{Tells, Leaves, Gains}
 use Rattle.guest_sys.specs.Machine.{Machine, machine, state_of, fed, bare}
 use Rattle.guest_sys.specs.Calls.{asks, takes_memory, after_call, answer_of, GainsFront, CallGives, Calls}
-use Rattle.guest_sys.specs.Parts.{IsWanted, Takes, with_eax}
+use Rattle.guest_sys.specs.Parts.{IsWanted, Takes, Fills, with_eax}
 use Rattle.guest_sys.proofs.BufferAccess.{denied_more, written_none, none_written}
-use Rattle.guest_sys.proofs.PutBytes.{filled_some}
+use Rattle.guest_sys.proofs.PutBytes.{filled_some, wanted_all}
 use Rattle.guest_sys.proofs.TakenBytes.{steady_same}
 
 -- the state in which a call begins
@@ -311,3 +311,43 @@ pub counts_as : (called : Called) (u v : Cpu) (n : MemoryView) (old : Machine) (
 counts_as called u v n old i o e value count a b same h =
     let P : ℕ → Type 0 = λ value. Calls (Ok Goes) old (machine (with_eax value u) n i o e) in
     answers_as called u v n old i o e value a b (subst P (sym same) h)
+
+-- ---- a read whose bytes all have room
+
+none_not : {A : Type 0} (o : Option A) → is_some o ≡ true → o ≡ None → ⊥
+none_not None h e = cc
+none_not (Some x) h e = cc
+
+pub fill_reads : (called : Called) (u v : Cpu) (m n : MemoryView) (i j o e : StreamView) (value count : ℕ) → get_or u.regs 0 0 ≡ 3 → get_or u.regs 3 0 ≡ 0
+    → is_some (bytes_at Writes (get_or u.regs 1 0) (get_or u.regs 2 0) m.regions) ≡ true → Fills (get_or u.regs 1 0) (get_or u.regs 2 0) (Ok count) m n i j
+    → called ≡ Goes → v ≡ with_eax value u → value ≡ count → Calls (Ok called) (machine u m i o e) (machine v n j o e)
+fill_reads called u v m n i j o e value count h g able f a b same =
+    let all = wanted_all (get_or u.regs 1 0) (get_or u.regs 2 0) m.regions (λ pos. none_not _ able) in
+    counts_as called u v n (machine u m i o e) j o e value (length f.0) a b (omega (arith, same, f.1))
+    (reads u m n i j o e (get_or u.regs 2 0) f.0 h g all f.3 n.regions f.2.regions f.2.rest)
+
+pub fill_fails : (r : Result Called SysError) (u : Cpu) (m n : MemoryView) (i j o e : StreamView) (x : SysError) → get_or u.regs 0 0 ≡ 3 → get_or u.regs 3 0 ≡ 0
+    → Fills (get_or u.regs 1 0) (get_or u.regs 2 0) (Err x) m n i j → r ≡ Err x → Calls r (machine u m i o e) (machine u n j o e)
+fill_fails r u m n i j o e x h g f is =
+    let P : Result Called SysError → Type 0 = λ r. Calls r (machine u m i o e) (machine u n j o e) in
+    subst P (sym is) (go x f)
+  where
+    go : (x : SysError) → Fills (get_or u.regs 1 0) (get_or u.regs 2 0) (Err x) m n i j → Calls (Err x) (machine u m i o e) (machine u n j o e)
+    go Input f =
+        let few : f.0.gives.0.taken < asks (begin u m f.0.left) = omega (arith, f.0.gives.0.few, asks_is u m f.0.left h g) in
+        calls_by _ _ _ f.0.left _ f.0.told refl (
+          refl,
+          f.1.rest,
+          (f.0.gives.0.taken, few, f.1.regions),
+          record {
+            taken = f.0.gives.0.taken;
+            few = few;
+            left = f.0.gives.0.rest;
+            fails = f.0.gives.1;
+            out = refl;
+            err = refl;
+          },
+        )
+    go Out f = absurd f
+    go Report f = absurd f
+    go Memory f = absurd f

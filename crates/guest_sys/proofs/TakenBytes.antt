@@ -96,11 +96,11 @@ piece_lost old zs after all n room x y same t =
 -- ---- all that is wanted
 
 -- what the source had, where it tells, and else what was taken
-abbrev told_or : Option (List ℕ) → List ℕ → List ℕ
+abbrev pub told_or : Option (List ℕ) → List ℕ → List ℕ
 told_or None bytes = bytes
 told_or (Some left) bytes = left
 
-tells_or : (o : Option (List ℕ)) (bytes : List ℕ) → IfSome o (λ told. told ≡ told_or o bytes)
+pub tells_or : (o : Option (List ℕ)) (bytes : List ℕ) → IfSome o (λ told. told ≡ told_or o bytes)
 tells_or None bytes = tt
 tells_or (Some left) bytes = refl
 
@@ -143,7 +143,7 @@ none_left (Some left) bytes piece b c h p e =
     let q = subst P h.1 p in
     h.0 ∙ ap (λ t. bytes ++ t) (q.2 e ∙ sym e)
 
-same_left : (o : Option (List ℕ)) (bytes : List ℕ) (b c : StreamView)
+pub same_left : (o : Option (List ℕ)) (bytes : List ℕ) (b c : StreamView)
     → IfSome o (λ left. (left ≡ bytes ++ drop (length bytes) left) × (b.bytes ≡ Some (drop (length bytes) left)))
     → c.bytes ≡ b.bytes
     → IfSome o (λ left. c.bytes ≡ Some (drop (length bytes) (told_or o bytes)))

@@ -2,6 +2,7 @@
 use Rattle.std.specs.Prelude.{◌+◌, get_or, set, ◌≡◌, ◌≢◌, ℕ, ◌<◌, ◌≤◌, Bool, true, false, List, [], ◌++◌, length, take, drop, Option, Some, None, IfSome, Result, Ok, Err}
 use Rattle.br_word.specs.Memory.{Region, Writes, bytes_at}
 use Rattle.br_outside.specs.Outside.{StreamView}
+use Rattle.ia_inst.specs.System.{filled}
 use Rattle.guest_mem.specs.View.{MemoryView}
 use Rattle.ia_meaning.specs.declared.cpu.Cpu.{Cpu}
 use Rattle.br_word.specs.declared.types.GuestFault.TheVariants.{Access}
@@ -55,6 +56,24 @@ pub record Takes (most : ℕ) (result : Result (List ℕ) SysError) (old new : S
   pub left : List ℕ
   pub told : Tells left old
   pub gives : TakeGives most left result old new
+
+-- memory after bytes were put at an address, where it allows them
+pub record HasFilled (at : ℕ) (bytes : List ℕ) (old new : MemoryView) : Type 0 where
+  pub regions : filled at bytes old.regions ≡ Some new.regions
+  pub rest : new ≡ record old { regions = new.regions }
+
+-- some bytes of a source were put at an address, at most so many; or the source failed
+abbrev pub FillsPiece : ℕ → ℕ → Result ℕ SysError → MemoryView → MemoryView → StreamView → StreamView → Type 0
+FillsPiece at room (Ok count) m n old new = (bytes : List ℕ) × (length bytes ≡ count) × (count ≤ room) × HasFilled at bytes m n
+    × TakesPiece bytes old new × Steady old new
+FillsPiece at room (Err Input) m n old new = (n ≡ m) × (new.bytes ≡ old.bytes) × Fails old new
+FillsPiece at room (Err e) m n old new = ⊥
+
+-- so many bytes are wanted of a source, and those that were taken stand at an address
+abbrev pub Fills : ℕ → ℕ → Result ℕ SysError → MemoryView → MemoryView → StreamView → StreamView → Type 0
+Fills at most (Ok count) m n old new = (bytes : List ℕ) × (length bytes ≡ count) × HasFilled at bytes m n × Takes most (Ok bytes) old new
+Fills at most (Err Input) m n old new = (takes : Takes most (Err Input) old new) × HasFilled at (take takes.gives.0.taken takes.left) m n
+Fills at most (Err e) m n old new = ⊥
 
 -- how many bytes a read may take that asks for `len`: one more than fit, if not all fit
 pub record IsWanted (at len : ℕ) (rs : List Region) (most : ℕ) : Type 0 where

@@ -8,7 +8,7 @@ ghost use Rattle.guest_sys.specs.Calls.{Calls};
 
 use crate::answers::{Called, SysError};
 use crate::buffers::{give_buffer, put, wanted};
-use crate::taking::take_up_to;
+use crate::taking::{fill, take_up_to};
 use br_outside::{Sink, SinkError, Source};
 use guest_mem::Memory;
 use ia_meaning::{Cpu, GuestFault};
@@ -36,7 +36,8 @@ fn denied(cpu: &Cpu) -> Called
     Called::Fault(GuestFault::Access(cpu.regs[1]))
 }
 
-/// read: fills memory at ecx with at most edx bytes of the input.
+/// read: fills memory at ecx with at most edx bytes of the input. Where they may not all fit, it takes them first, one more
+/// than fit at most.
 fn read<I: Source>(
     alloc: Global,
     cpu: &mut Cpu,
@@ -50,6 +51,10 @@ fn read<I: Source>(
     if cpu.regs[3] != 0 {
         return Ok(answer(cpu, BAD_DESCRIPTOR));
     }
+    if m.can_write(cpu.regs[1], cpu.regs[2]) {
+        let count = fill(m, cpu.regs[1], cpu.regs[2], input)?;
+        return Ok(answer(cpu, count));
+    }
     let most = wanted(m, cpu.regs[1], cpu.regs[2]);
     let bytes = take_up_to(alloc, input, most)?;
     if !put(m, cpu.regs[1], &bytes) {
@@ -59,34 +64,24 @@ fn read<I: Source>(
 }
 
 /// Gives a sink the edx bytes of memory at ecx.
-fn write_to<S: Sink>(
-    alloc: Global,
-    cpu: &mut Cpu,
-    m: &Memory,
-    sink: &mut S,
-) -> Result<Called, SinkError>
+fn write_to<S: Sink>(cpu: &mut Cpu, m: &Memory, sink: &mut S) -> Result<Called, SinkError>
     ensures { WritesBuffer (buffer (get_or cpu.old.regs 1 0) (get_or cpu.old.regs 2 0) m.now.regions) result
         cpu.old cpu.new (S.seen sink.old) (S.seen sink.new) }
 {
-    if !give_buffer(alloc, m, cpu.regs[1], cpu.regs[2], sink)? {
+    if !give_buffer(m, cpu.regs[1], cpu.regs[2], sink)? {
         return Ok(denied(cpu));
     }
     Ok(answer(cpu, cpu.regs[2]))
 }
 
 /// write to descriptor 1.
-fn write_out<O: Sink>(
-    alloc: Global,
-    cpu: &mut Cpu,
-    m: &Memory,
-    out: &mut O,
-) -> Result<Called, SysError>
+fn write_out<O: Sink>(cpu: &mut Cpu, m: &Memory, out: &mut O) -> Result<Called, SysError>
     requires number { get_or cpu.old.regs 0 0 ≡ 4 }
     requires descriptor { get_or cpu.old.regs 3 0 ≡ 1 }
     ensures { (i e : StreamView) → Calls result (machine cpu.old m.now i (O.seen out.old) e)
         (machine cpu.new m.now i (O.seen out.new) e) }
 {
-    match write_to(alloc, cpu, m, out) {
+    match write_to(cpu, m, out) {
         Ok(called) => Ok(called),
         Err(SinkError::Failed) => Err(SysError::Out),
         Err(SinkError::Memory) => Err(SysError::Memory),
@@ -94,18 +89,13 @@ fn write_out<O: Sink>(
 }
 
 /// write to descriptor 2.
-fn write_err<E: Sink>(
-    alloc: Global,
-    cpu: &mut Cpu,
-    m: &Memory,
-    err: &mut E,
-) -> Result<Called, SysError>
+fn write_err<E: Sink>(cpu: &mut Cpu, m: &Memory, err: &mut E) -> Result<Called, SysError>
     requires number { get_or cpu.old.regs 0 0 ≡ 4 }
     requires descriptor { get_or cpu.old.regs 3 0 ≡ 2 }
     ensures { (i o : StreamView) → Calls result (machine cpu.old m.now i o (E.seen err.old))
         (machine cpu.new m.now i o (E.seen err.new)) }
 {
-    match write_to(alloc, cpu, m, err) {
+    match write_to(cpu, m, err) {
         Ok(called) => Ok(called),
         Err(SinkError::Failed) => Err(SysError::Report),
         Err(SinkError::Memory) => Err(SysError::Memory),
@@ -129,7 +119,8 @@ fn move_break(cpu: &mut Cpu, m: &mut Memory) -> Result<Called, SysError>
 /// The calls are exit (eax 1, status ebx modulo 256), read (3, from descriptor 0 to ecx, at most edx
 /// bytes), write (4, to descriptor 1 or 2, edx bytes from ecx) and brk (45, to ebx). Another
 /// descriptor answers -9, another number -38. A read takes of `input` until edx bytes came or it has
-/// no more, and a write gives its bytes to `out` or `err` at once.
+/// no more, and a write gives its bytes to `out` or `err` at once, cut at the multiples of 4096. Only a read whose
+/// bytes may not all fit takes memory of its own.
 ///
 /// `Fault` comes where the bytes of a read do not fit one writable region, or those of a write do not
 /// lie in one readable region. Then processor and memory are as before; a read has taken at most one
@@ -157,8 +148,8 @@ pub fn system<I: Source, O: Sink, E: Sink>(
         1 => Ok(Called::Exit((cpu.regs[3] % 256) as u8)),
         3 => read(alloc, cpu, m, input),
         4 => match cpu.regs[3] {
-            1 => write_out(alloc, cpu, m, out),
-            2 => write_err(alloc, cpu, m, err),
+            1 => write_out(cpu, m, out),
+            2 => write_err(cpu, m, err),
             _ => Ok(answer(cpu, BAD_DESCRIPTOR)),
         },
         45 => move_break(cpu, m),

@@ -8,3 +8,6 @@ mod taking;
 
 pub use answers::{Called, SysError};
 pub use calls::system;
+
+#[cfg(test)]
+mod tests;

@@ -38,6 +38,50 @@ fn guest(alloc: Global) -> Result<Exe, AllocError>
     })
 }
 
+/// A guest of one segment of 121 bytes.
+fn short_guest(alloc: Global) -> Result<Exe, AllocError>
+    ensures { IfOk result IsGuest }
+{
+    let mut segments = Vec::new(alloc);
+    segments.push(Segment {
+        start: 0x0804_8000,
+        size: 121,
+        perms: Perms {
+            read: true,
+            write: false,
+            exec: true,
+        },
+        bytes: Bytes::of(Vec::from_slice(alloc, &[0x90, 0xC3])?),
+    })?;
+    Ok(Exe {
+        entry: 0x0804_8000,
+        segments: Segments::of(segments),
+        brk_start: 0x0804_9000,
+    })
+}
+
+/// A guest whose code starts a byte before a border.
+fn border_guest(alloc: Global) -> Result<Exe, AllocError>
+    ensures { IfOk result IsGuest }
+{
+    let mut segments = Vec::new(alloc);
+    segments.push(Segment {
+        start: 0x0804_8FFF,
+        size: 4100,
+        perms: Perms {
+            read: true,
+            write: false,
+            exec: true,
+        },
+        bytes: Bytes::of(Vec::from_slice(alloc, &[0x81, 0xC0, 1, 2, 3, 4, 0xC3])?),
+    })?;
+    Ok(Exe {
+        entry: 0x0804_8FFF,
+        segments: Segments::of(segments),
+        brk_start: 0x0804_B000,
+    })
+}
+
 #[test]
 fn begins(rt: HostRuntime) -> Result<(), Fail> {
     let memory = Memory::of(rt.alloc(), &guest(rt.alloc())?, &[0xAA, 0xBB])?;
@@ -114,5 +158,109 @@ fn moves_the_break(rt: HostRuntime) -> Result<(), Fail> {
     assert_eq!(rt; memory.set_break(0x0C04_A001)?, 0x0804_A008);
     assert_eq!(rt; memory.set_break(0x0C04_A000)?, 0x0C04_A000);
     assert_eq!(rt; memory.load(0x0C04_9FFC, Width::B32), Some(0));
+    Ok(())
+}
+
+#[test]
+fn crosses_pages(rt: HostRuntime) -> Result<(), Fail> {
+    let mut memory = Memory::of(rt.alloc(), &guest(rt.alloc())?, &[])?;
+    for (at, w, value) in [
+        (0xBFF0_0FFF, Width::B16, 0x0000_2211),
+        (0xBFF0_1FFF, Width::B32, 0x4433_2211),
+        (0xBFF0_2FFE, Width::B32, 0x8877_6655),
+        (0xBFF0_3FFD, Width::B32, 0xCCBB_AA99),
+    ] {
+        assert!(rt; memory.store(at, w, value), "at {at}");
+        assert_eq!(rt; memory.load(at, w), Some(value), "at {at}");
+    }
+    assert_eq!(rt; memory.load(0xBFF0_2000, Width::B32), Some(0x0044_3322));
+    Ok(())
+}
+
+#[test]
+fn lends_pieces(rt: HostRuntime) -> Result<(), Fail> {
+    let mut memory = Memory::of(rt.alloc(), &guest(rt.alloc())?, &[])?;
+    assert!(rt; memory.can_write(0xBFF0_0FFE, 5));
+    let piece = memory.piece_mut(0xBFF0_0FFE, 5);
+    assert_eq!(rt; piece.len(), 2);
+    piece.copy_from_slice(&[1, 2]);
+    assert!(rt; memory.can_write(0xBFF0_1000, 3));
+    let piece = memory.piece_mut(0xBFF0_1000, 3);
+    assert_eq!(rt; piece.len(), 3);
+    piece.copy_from_slice(&[3, 4, 5]);
+    assert_eq!(rt; memory.load(0xBFF0_0FFE, Width::B32), Some(0x0403_0201));
+    assert!(rt; memory.can_read(0xBFF0_0FFE, 5));
+    assert_eq!(rt; memory.piece(0xBFF0_0FFE, 5), [1, 2].as_slice());
+    Ok(())
+}
+
+#[test]
+fn moves_the_break_by_pages(rt: HostRuntime) -> Result<(), Fail> {
+    let mut memory = Memory::of(rt.alloc(), &guest(rt.alloc())?, &[])?;
+    assert_eq!(rt; memory.set_break(0x0804_B800)?, 0x0804_B800);
+    assert!(rt; memory.store(0x0804_AFFE, Width::B32, 0x4433_2211));
+    assert_eq!(rt; memory.set_break(0x0804_B000)?, 0x0804_B000);
+    assert_eq!(rt; memory.load(0x0804_AFFE, Width::B32), None);
+    assert_eq!(rt; memory.set_break(0x0804_D001)?, 0x0804_D001);
+    assert_eq!(rt; memory.load(0x0804_AFFE, Width::B32), Some(0x2211));
+    assert_eq!(rt; memory.load(0x0804_D000, Width::B8), Some(0));
+    Ok(())
+}
+
+#[test]
+fn pages_are_apart(rt: HostRuntime) -> Result<(), Fail> {
+    let mut memory = Memory::of(rt.alloc(), &short_guest(rt.alloc())?, &[])?;
+    assert_eq!(rt; memory.set_break(0x0804_B000)?, 0x0804_B000);
+    for (area, pages) in [(0, [121].as_slice()), (2, [4096, 4096].as_slice())] {
+        assert_eq!(rt;
+            memory.areas[area].page_sizes(rt.alloc())?.as_slice(),
+            pages,
+            "area {area}"
+        );
+    }
+    assert_eq!(rt; memory.set_break(0x0804_9801)?, 0x0804_9801);
+    assert_eq!(rt;
+        memory.areas[2].page_sizes(rt.alloc())?.as_slice(),
+        [2049].as_slice()
+    );
+    assert_eq!(rt; memory.set_break(0x0804_A801)?, 0x0804_A801);
+    assert_eq!(rt;
+        memory.areas[2].page_sizes(rt.alloc())?.as_slice(),
+        [4096, 2049].as_slice()
+    );
+    Ok(())
+}
+
+#[test]
+fn begins_before_a_border(rt: HostRuntime) -> Result<(), Fail> {
+    let memory = Memory::of(rt.alloc(), &border_guest(rt.alloc())?, &[])?;
+    assert_eq!(rt;
+        memory.areas[0].page_sizes(rt.alloc())?.as_slice(),
+        [1, 4096, 3].as_slice()
+    );
+    let mut bytes = [7; 15];
+    assert_eq!(rt; memory.fetch(0x0804_8FFF, &mut bytes), 15);
+    assert_eq!(rt;
+        bytes,
+        [0x81, 0xC0, 1, 2, 3, 4, 0xC3, 0, 0, 0, 0, 0, 0, 0, 0]
+    );
+    assert_eq!(rt; memory.load(0x0804_8FFF, Width::B32), Some(0x0201_C081));
+    assert_eq!(rt; memory.piece(0x0804_8FFF, 3), [0x81].as_slice());
+    assert_eq!(rt; memory.piece(0x0804_9000, 2), [0xC0, 1].as_slice());
+    assert_eq!(rt; memory.fetch(0x0804_A001, &mut bytes), 2);
+    assert_eq!(rt; memory.fetch(0x0804_A003, &mut bytes), 0);
+    Ok(())
+}
+
+#[test]
+fn shows_zeros_after_a_fall(rt: HostRuntime) -> Result<(), Fail> {
+    let mut memory = Memory::of(rt.alloc(), &guest(rt.alloc())?, &[])?;
+    assert_eq!(rt; memory.set_break(0x0804_C000)?, 0x0804_C000);
+    memory.copy_in(0x0804_AFFD, &[1, 2, 3, 4, 5, 6]);
+    assert_eq!(rt; memory.set_break(0x0804_B000)?, 0x0804_B000);
+    assert_eq!(rt; memory.set_break(0x0804_C000)?, 0x0804_C000);
+    let mut bytes = [7; 6];
+    memory.copy_out(0x0804_AFFD, &mut bytes);
+    assert_eq!(rt; bytes, [1, 2, 3, 0, 0, 0]);
     Ok(())
 }

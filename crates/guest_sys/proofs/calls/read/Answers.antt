@@ -1,8 +1,8 @@
-use Rattle.std.proofs.Common.{Err, ap, sym, ◌∙◌, ◌≡◌, Some, None, get_or, arith, length}
+use Rattle.std.proofs.Common.{Err, ap, refl, sym, ◌∙◌, ◌≡◌, Some, None, get_or, arith, length}
 use Rattle.std.proofs.lemmas.Result.{err_from_is_err_and}
 use Rattle.ia_inst.specs.System.{filled}
 use Rattle.guest_sys.proofs.PutBytes.{put_false, put_true}
-use Rattle.guest_sys.proofs.DoneCalls.{answers_as, counts_as, bad_read, reads, read_faults, read_failed, faults_as}
+use Rattle.guest_sys.proofs.DoneCalls.{answers_as, counts_as, bad_read, reads, read_faults, read_failed, faults_as, fill_reads, fill_fails}
 use Rattle.guest_sys.proofs.calls.read.Goals as goal
 
 pub returns-then-cpu-ne0 : goal.returns-then-cpu-ne0
@@ -27,5 +27,10 @@ returns g c o e =
 
 pub returns-in_err-bytes : goal.returns-in_err-bytes
 returns-in_err-bytes g c o e =
-    let p = err_from_is_err_and c.from_residual.result c.from_residual.ensures.1 in
+    let p = err_from_is_err_and c.from_residual-in_err-bytes.result c.from_residual-in_err-bytes.ensures.1 in
     read_failed _ c.args.cpu.now c.args.m.now _ _ o e _ _ c.requires c.if-cpu-ne0.false c.wanted-most.ensures c.in_err-bytes.ensures (p.1 ∙ ap Err p.2)
+
+pub returns-then-can_write : goal.returns-then-can_write
+returns-then-can_write g c o e =
+    fill_reads c.answer-then-can_write.result c.args.cpu.now c.answer-then-can_write.new.cpu c.args.m.now c.fill.new.m _ _ o e c.in_ok-count.count c.in_ok-count.count c.requires c.if-cpu-ne0.false
+    (sym c.if-can_write.ensures) c.in_ok-count.ensures c.answer-then-can_write.ensures.goes c.answer-then-can_write.ensures.eax refl

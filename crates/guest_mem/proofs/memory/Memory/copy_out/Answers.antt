@@ -4,8 +4,8 @@ use Rattle.br_word.specs.Memory.{Reads}
 use Rattle.guest_mem.proofs.Places.{covers-place, bytes_at-None, bytes_at-Some}
 use Rattle.guest_mem.proofs.memory.Memory.copy_out.Goals as goal
 
-pub copy_out-requires : goal.copy_out-requires
-copy_out-requires c =
+pub copy_out-requires-clause-inside : goal.copy_out-requires-clause-inside
+copy_out-requires-clause-inside c =
     covers-place Reads c.args.at (length c.args.into.now) c.self.inside.areas.items c.in-Some.place c.index.result.now
     (rw (← c.self.view_is) at (sym c.read_place.ensures ∙ c.in-Some.is)) c.index.ensures
 

@@ -10,8 +10,8 @@ left-requires c =
     covers-place Runs c.args.at 1 c.self.inside.areas.items c.in-Some.place c.index-area.result.now
     (rw (← c.self.view_is) at (sym c.code_place.ensures ∙ c.in-Some.is)) c.index-area.ensures
 
-pub copy_out-requires : goal.copy_out-requires
-copy_out-requires c =
+pub copy_out-requires-clause-inside : goal.copy_out-requires-clause-inside
+copy_out-requires-clause-inside c =
     let r = c.index-area.result.now in
     let held = covers-place Runs c.args.at 1 c.self.inside.areas.items c.in-Some.place r
     (rw (← c.self.view_is) at (sym c.code_place.ensures ∙ c.in-Some.is)) c.index-area.ensures in

@@ -5,6 +5,7 @@ use Rattle.elf_read.specs.Elf.{lowest}
 use Rattle.br_word.specs.Memory.{Region}
 use Rattle.elf_read.specs.Regions.{region_of, stack_region, heap_region}
 use Rattle.guest_mem.proofs.Heaps.{segment-room, HasHeap-opening}
+use Rattle.guest_mem.proofs.Apart.{room-opening}
 use Rattle.guest_mem.proofs.memory.Memory.of.Goals as goal
 
 pub segment-requires : goal.segment-requires
@@ -21,4 +22,4 @@ invariant_of-result c =
     let whole : take c.loop-segment.segment-index ss ≡ ss = take_all c.loop-segment.segment-index ss c.loop-segment-test.false in
     let e = opened c.loop-segment.areas.items c.push-2.new.self.items c.push-3.new.self.items (map region_of c.args.exe.now.segments) c.in_ok-stack.field-0 c.heap.result (stack_region c.args.top.now) (heap_region c.args.exe.now.brk_start)
     c.in_ok-push-2.ensures.items c.in_ok-push-3.ensures.items (c.loop-segment.invariant ∙ ap (map region_of) (whole ∙ c.as_slice-segment-items.ensures)) c.in_ok-stack.ensures c.heap.ensures in
-    rw e (HasHeap-opening c.args.exe.now c.args.top.now c.requires.guest)
+    rw e (HasHeap-opening c.args.exe.now c.args.top.now c.requires.guest, room-opening c.args.exe.now c.args.top.now c.requires.guest c.requires.room)

@@ -4,11 +4,12 @@ use Rattle.br_word.specs.Memory.{Writes, Region}
 use Rattle.guest_mem.specs.View.{MemoryView, with_regions}
 use Rattle.guest_mem.proofs.Places.{covers-place, covers-bounds, written-None, written-Some}
 use Rattle.guest_mem.proofs.Heaps.{HasHeap-set}
+use Rattle.guest_mem.proofs.Apart.{room-set}
 use Rattle.guest_mem.proofs.Numbers.{length-put_over}
 use Rattle.guest_mem.proofs.memory.Memory.write.Goals as goal
 
-pub copy_in-requires : goal.copy_in-requires
-copy_in-requires c =
+pub copy_in-requires-clause-inside : goal.copy_in-requires-clause-inside
+copy_in-requires-clause-inside c =
     covers-place Writes c.args.at (length c.args.from.now) c.self.inside.areas.items c.in-Some.place c.index_mut.result.now
     (rw (← c.self.view_is) at (sym c.write_place.ensures ∙ c.in-Some.is)) c.index_mut.ensures.value
 
@@ -17,9 +18,11 @@ invariant_of-self c =
     let r = c.index_mut.result.now in
     let bounds = covers-bounds r c.args.at (length c.args.from.now) (covers-place Writes c.args.at (length c.args.from.now) c.self.inside.areas.items c.in-Some.place r
     (rw (← c.self.view_is) at (sym c.write_place.ensures ∙ c.in-Some.is)) c.index_mut.ensures.value) in
-    HasHeap-set c.self.inside.brk_start c.self.inside.brk c.self.inside.areas.items c.in-Some.place r c.copy_in.new.self c.self.invariant c.index_mut.ensures.value
-    (ap (λ (s : Region). s.start) c.copy_in.ensures)
-    (ap (λ (s : Region). length s.bytes) c.copy_in.ensures ∙ length-put_over r.bytes c.args.from.now (c.args.at - r.start) (omega (arith, bounds)))
+    let starts = ap (λ (s : Region). s.start) c.copy_in.ensures in
+    let long = ap (λ (s : Region). length s.bytes) c.copy_in.ensures ∙ length-put_over r.bytes c.args.from.now (c.args.at - r.start) (omega (arith, bounds)) in (
+      HasHeap-set c.self.inside.brk_start c.self.inside.brk c.self.inside.areas.items c.in-Some.place r c.copy_in.new.self c.self.invariant.0 c.index_mut.ensures.value starts long,
+      room-set c.self.inside.brk_start c.self.inside.areas.items c.in-Some.place r c.copy_in.new.self c.self.invariant.1 c.index_mut.ensures.value starts long,
+    )
 
 pub returns-in-None-clause-allowed : goal.returns-in-None-clause-allowed
 returns-in-None-clause-allowed c =
