@@ -7,3 +7,5 @@ mod Body
 mod Stub
 mod Way
 mod Whole
+mod Joined
+mod Suited

@@ -142,7 +142,7 @@ it_named (Param v) j h = h
 it_named (Named k) j h = h
 it_named (Num n) j h = h
 
-named_it : (v : Val) (j : ℕ) → IsNamed v j → NamesIt j v
+pub named_it : (v : Val) (j : ℕ) → IsNamed v j → NamesIt j v
 named_it (Param v) j h = h
 named_it (Named k) j h = h
 named_it (Num n) j h = h

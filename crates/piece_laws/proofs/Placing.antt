@@ -21,7 +21,7 @@ place_same (Slot a) (Slot b) h = ap (λ k. Slot k) (eqb-true a b h)
 place_same (Reg a) (Slot b) h = absurd (true≢false (sym h))
 place_same (Slot a) (Reg b) h = absurd (true≢false (sym h))
 
-places_differ : (p q : Place) → (q ≡ p → ⊥) → same_place p q ≡ false
+pub places_differ : (p q : Place) → (q ≡ p → ⊥) → same_place p q ≡ false
 places_differ p q n = go (same_place p q) refl
   where
     go : (b : Bool) → same_place p q ≡ b → b ≡ false

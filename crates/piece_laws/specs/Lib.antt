@@ -1,2 +1,4 @@
 pub mod Choices
 pub mod Pieces
+pub mod Joined
+pub mod Suited

@@ -4,4 +4,4 @@
 
 mod laws;
 
-pub use laws::pieces_do;
+pub use laws::{items_are_pieces, pieces_do, suits_hold};
