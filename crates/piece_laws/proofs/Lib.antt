@@ -9,3 +9,5 @@ mod Way
 mod Whole
 mod Joined
 mod Suited
+mod Capture
+mod Marked

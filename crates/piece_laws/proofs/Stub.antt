@@ -38,18 +38,11 @@ use Rattle.sim_runs.specs.Coding.{Exits, out_at, EndNames, NamedLater, NamesIt}
 use Rattle.sim_runs.specs.Recovered.{Coded}
 use Rattle.sim_runs.specs.Passes.{Gets, StandsFrom, Passes, count_of}
 use Rattle.sim_runs.specs.Pieces.{Held, Tailed}
-use Rattle.sim_runs.proofs.Pass.{gets_then, gets_map, stands_cut, count_cut}
+use Rattle.sim_runs.proofs.Pass.{gets_then, gets_map, size_cut, stands_cut, count_cut}
 use Rattle.piece_laws.specs.Choices.{coding_of, Suits}
 use Rattle.piece_laws.proofs.Named.{it_named, named_it}
 use Rattle.piece_laws.proofs.Served.{sunk_of, Ready}
 use Rattle.piece_laws.proofs.Steps.{Below, lines_get, moves_get, restore_gets, jump_gets}
-
-pub sizes_cut : (is js : List Item) → size_of_items (is ++ js) ≡ size_of_items is + size_of_items js
-sizes_cut [] js = omega arith
-sizes_cut (Put i ∷ is) js = let q = sizes_cut is js in omega (arith, q)
-sizes_cut (Byte b ∷ is) js = let q = sizes_cut is js in omega (arith, q)
-sizes_cut (Jump c d ∷ is) js = let q = sizes_cut is js in omega (arith, q)
-sizes_cut (Label l ∷ is) js = let q = sizes_cut is js in omega (arith, q)
 
 pub slot_kept : (k : ℕ) → IsKept (Slot k)
 slot_kept k = record { not_eax = refl; not_ecx = refl }
@@ -141,8 +134,8 @@ module _ (c : Coded) (below : Below c.code) (homes : (v : ℕ) → c.home v ≡ 
         let to = at + size_of_items (regain_items choice label) in
         let n = count_cut dest c.code one (two ++ three) in
         let m = count_cut dest c.code two three in
-        let x = sizes_cut one (two ++ three) in
-        let y = sizes_cut two three in
+        let x = size_cut dest c.code one (two ++ three) in
+        let y = size_cut dest c.code two three in
         let z : at + size_of_items one + size_of_items two + size_of_items three ≡ to = omega (arith, x, y) in
         let a = stands_cut dest c.code one (two ++ three) at s in
         let d = stands_cut dest c.code two three (at + size_of_items one) a.1 in

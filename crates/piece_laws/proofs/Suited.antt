@@ -12,7 +12,7 @@ use Rattle.block_make.specs.Choices.{Choice, place_in}
 use Rattle.piece_laws.specs.Choices.{IsClear}
 use Rattle.piece_laws.specs.Suited.{SuitsHold}
 
-own_slot : (body sunk : List Bool) (i : ℕ) (ls : List Line) (j n : ℕ) → n ≡ i + j → place_or n (slice_get (places_from body sunk i ls) j) ≡ Slot (17 + n)
+pub own_slot : (body sunk : List Bool) (i : ℕ) (ls : List Line) (j n : ℕ) → n ≡ i + j → place_or n (slice_get (places_from body sunk i ls) j) ≡ Slot (17 + n)
 own_slot body sunk i [] j n e = refl
 own_slot body sunk i (l ∷ ls) zero n e = go ((is_in body i || is_in sunk i) && has_result l)
   where

@@ -1,5 +1,6 @@
 //! The laws of pieces.
 ghost use Rattle.piece_laws.specs.Joined.{ItemsArePieces};
+ghost use Rattle.piece_laws.specs.Marked.{MarkedServe};
 ghost use Rattle.piece_laws.specs.Pieces.{PiecesDo};
 ghost use Rattle.piece_laws.specs.Suited.{SuitsHold};
 
@@ -33,4 +34,9 @@ pub fn items_are_pieces()
 /// Each choice of a checked block suits.
 pub fn suits_hold()
     ensures { SuitsHold }
+{}
+
+/// A choice that has every line in the body serves its block, where every register is live.
+pub fn marked_serve()
+    ensures { MarkedServe }
 {}

@@ -24,10 +24,9 @@ use Rattle.sim_runs.specs.Relation.{Plan, at_home}
 use Rattle.sim_runs.specs.Laws.{Leads, Opens, Captured}
 use Rattle.sim_runs.specs.Image.{Capturable}
 use Rattle.sim_runs.specs.Passes.{Gets}
-use Rattle.sim_runs.proofs.Pass.{gets_then, gets_map, gets_leads}
+use Rattle.sim_runs.proofs.Pass.{gets_then, gets_map, gets_leads, cut}
 use Rattle.piece_laws.specs.Exchange.{HomesMeet}
 use Rattle.piece_laws.proofs.Steps.{gets_of}
-use Rattle.piece_laws.proofs.Cut.{items_cut}
 
 -- flags live in their slots
 high_home : (homes : Homes) → AreHomes homes → (v : ℕ) → 8 ≤ v → home_in homes v ≡ Slot v
@@ -133,7 +132,6 @@ module _ (homes : Homes) (plan : Plan) (dest : Dest → ℕ) (meet : HomesMeet h
   }
     where
       smalls : (p : Place) → InRange p → own_cell t c.own p < 2 ^ 32
-      unfolding own_cell
       smalls (Reg r) l = c.small r l
       smalls (Slot k) l =
           let e = word_at c.own (4 * k) (let s = c.ready.size in omega (arith, s, l)) in
@@ -189,7 +187,7 @@ module _ (homes : Homes) (plan : Plan) (dest : Dest → ℕ) (meet : HomesMeet h
       let a = first t c.own outer in
       let h = first_seen t outer c in
       let mid = t.eip + size_of_items (capture_items homes) in
-      let d = items_cut dest plan.code (capture_items homes) (Jump None next ∷ []) t.eip to s in
+      let d = cut dest plan.code (capture_items homes) (Jump None next ∷ []) t.eip to s in
       let P = Comes plan.code mid (exchange.Captured homes a) in
       let Q = Captured plan y outer t in
       gets_leads Q (14 + length homes) t cs (gets_map Q Q 1 1 (13 + length homes + 1) _ t cs (omega arith) (omega arith) (λ u q. q)
