@@ -1,19 +1,16 @@
 -- The body of a fragment.
-use Rattle.std.proofs.Common.{◌≡◌, ℕ, ◌+◌, Bool, true, List, [], ◌∷◌, map, length, Some, refl, sym, ap, ◌∙◌, subst, arith}
-use Rattle.br_word.specs.Memory.{Region, HoldBytes, store}
+use Rattle.std.proofs.Common.{◌≡◌, ℕ, ◌+◌, List, [], ◌∷◌, length, refl, sym, ap, ◌∙◌, subst, arith}
+use Rattle.br_word.specs.Memory.{Region, HoldBytes}
 use Rattle.br_word.specs.Words.{size_of}
 use Rattle.br_word.specs.State.{State}
 use Rattle.run_model.specs.Sound.{StoresBytes}
 use Rattle.par_moves.specs.Homes.{home_of}
 use Rattle.ssa_form.specs.declared.form.Line.{Line}
 use Rattle.ssa_form.specs.declared.form.Line.TheVariants.{Bin, One, Select, Load, Store, Gone}
-use Rattle.ssa_form.specs.declared.form.Block.{Block}
 use Rattle.ssa_form.specs.Same.{start_env}
 use Rattle.ssa_form.specs.Value.{Env, line_next, IsAllowed, AllAllowed, fold, stored, value}
-use Rattle.emit_ops.specs.Sequences.{lines_code}
 use Rattle.par_moves.specs.declared.locations.Place.{Place}
 use Rattle.ia_encode.specs.declared.item.Dest.{Dest}
-use Rattle.ia_encode.specs.declared.item.Item.TheVariants.{Inst as Put}
 use Rattle.ia_encode.specs.Items.{size_of_items}
 use Rattle.code_laws.specs.Seen.{Cells, Sees}
 use Rattle.code_laws.specs.Placed.{AllHigh, Left}

@@ -1,5 +1,5 @@
 -- Opening, closing and capture.
-use Rattle.std.proofs.Common.{◌≡◌, ℕ, ◌+◌, ◌*◌, ◌^◌, ◌<◌, ◌≤◌, Bool, true, false, List, [], ◌∷◌, ◌++◌, length, get_or, None, refl, sym, ap, ◌∙◌, subst, arith}
+use Rattle.std.proofs.Common.{◌≡◌, ℕ, ◌+◌, ◌*◌, ◌^◌, ◌<◌, ◌≤◌, Bool, true, false, List, [], ◌∷◌, length, get_or, None, refl, sym, ap, ◌∙◌, subst, arith}
 use Rattle.std.proofs.lemmas.Bool.{ne_eqb}
 use Rattle.br_word.specs.Memory.{Region}
 use Rattle.br_word.specs.Words.{bit}
@@ -14,7 +14,7 @@ use Rattle.ia_encode.specs.declared.item.Dest.{Dest}
 use Rattle.ia_encode.specs.declared.item.Item.TheVariants.{Jump}
 use Rattle.ia_encode.specs.Items.{jump_inst, distance, size_of_items, Reads, Stands}
 use Rattle.fall_stubs.specs.Exchange.{capture_items, island_items, closing_items}
-use Rattle.code_laws.specs.Seen.{Cells, IsCode, Sees, private_region, word}
+use Rattle.code_laws.specs.Seen.{Cells, Sees, private_region, word}
 use Rattle.code_laws.specs.Exchange.{Homes, FlagsHeld, Opened}
 use Rattle.code_laws.specs.Exchange as exchange
 use Rattle.code_laws.specs.Laws.{Comes, own_start, ExchangeKeeps, JumpsLead}
@@ -23,7 +23,6 @@ use Rattle.code_laws.proofs.Memory.{word_at}
 use Rattle.sim_runs.specs.Relation.{Plan, at_home}
 use Rattle.sim_runs.specs.Laws.{Leads, Opens, Captured}
 use Rattle.sim_runs.specs.Image.{Capturable}
-use Rattle.sim_runs.specs.Passes.{Gets}
 use Rattle.sim_runs.proofs.Pass.{gets_then, gets_map, gets_leads, cut}
 use Rattle.piece_laws.specs.Exchange.{HomesMeet}
 use Rattle.piece_laws.proofs.Steps.{gets_of}

@@ -1,9 +1,8 @@
 -- block_make's items of a fragment, and the simulation's.
-use Rattle.std.proofs.Common.{◌≡◌, ℕ, suc, Bool, true, false, ◌||◌, List, [], ◌∷◌, ◌++◌, map, Option, Some, None, refl, sym, ap, ◌∙◌, subst}
-use Rattle.std.specs.Prelude.{◌==◌, nat_eq, if◌then◌else◌}
+use Rattle.std.proofs.Common.{◌≡◌, ℕ, suc, Bool, true, false, ◌||◌, List, [], ◌∷◌, ◌++◌, map, Option, Some, None, refl, sym, ap, ◌∙◌}
+use Rattle.std.specs.Prelude.{◌==◌, if◌then◌else◌}
 use Rattle.std.proofs.lemmas.Bool.{eqb-true, eq-eqb, ne_eqb, true≢false}
 use Rattle.elf_read.specs.declared.exe.Exe.{Exe}
-use Rattle.ia_encode.specs.declared.item.Item.{Item}
 use Rattle.ia_encode.specs.declared.item.Item.TheVariants as item
 use Rattle.ia_encode.specs.declared.item.Dest.TheVariants as dests
 use Rattle.br_word.specs.declared.types.Width.TheVariants.{B32}
@@ -11,8 +10,6 @@ use Rattle.ia_inst.specs.declared.inst.Inst.{Inst}
 use Rattle.ia_inst.specs.declared.inst.Inst.TheVariants.{Alu}
 use Rattle.ia_inst.specs.declared.inst.Src.TheVariants as src
 use Rattle.block_cut.specs.Transfers.{is_among}
-use Rattle.block_cut.specs.CountedEdges.{counting}
-use Rattle.flow_graph.specs.Graph.{known_of}
 use Rattle.ssa_form.specs.declared.form.Exit.{Exit}
 use Rattle.ssa_form.specs.declared.form.Exit.TheVariants.{Jump, Cond, Way, Island}
 use Rattle.ssa_form.specs.declared.form.BlockKey.{BlockKey}

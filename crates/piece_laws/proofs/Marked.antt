@@ -1,5 +1,5 @@
 -- All lines in the body, each in a slot of its own.
-use Rattle.std.proofs.Common.{◌≡◌, ◌≢◌, ℕ, zero, suc, ◌+◌, ◌<◌, ◌≤◌, Bool, true, false, List, [], ◌∷◌, ◌++◌, length, get_or, refl, sym, ap, ◌∙◌, subst, arith}
+use Rattle.std.proofs.Common.{◌≡◌, ℕ, suc, ◌+◌, ◌<◌, ◌≤◌, Bool, true, false, List, [], ◌∷◌, ◌++◌, length, refl, sym, ap, ◌∙◌, subst, arith}
 use Rattle.std.specs.Prelude.{IsTrue, if◌then◌else◌}
 use Rattle.std.proofs.lemmas.Bool.{true≢false}
 use Rattle.std.proofs.lemmas.List.{append-nil}
@@ -16,9 +16,9 @@ use Rattle.ssa_form.specs.Checked.{checked}
 use Rattle.ssa_form.specs.Same.{SpellsWords, rows}
 use Rattle.ssa_form.specs.Value.{numbered}
 use Rattle.emit_ops.specs.Sequences.{kept}
-use Rattle.block_make.specs.Choices.{Choice, place_in}
+use Rattle.block_make.specs.Choices.{Choice}
 use Rattle.sim_runs.specs.Lines.{NamedIn, LineIn, MustStay, Closed, Below, LineBelow, Ordered, either, AllSunk}
-use Rattle.sim_runs.specs.Coding.{out_at, SameKind, Coding, Exits, ExitIn, HasResult, IsKept, NoneLost, Serves}
+use Rattle.sim_runs.specs.Coding.{out_at, SameKind, Coding, Exits, ExitIn, IsKept, NoneLost, Serves}
 use Rattle.sim_runs.specs.WholeBlock.{IsWay}
 use Rattle.piece_laws.specs.Choices.{coding_of}
 use Rattle.piece_laws.specs.Marked.{AllInBody, MarkedServe}

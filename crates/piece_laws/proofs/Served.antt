@@ -1,11 +1,11 @@
 -- What a choice that serves its block and suits has: safe places for its body and for its sunk lines.
-use Rattle.std.proofs.Common.{◌≡◌, ◌≢◌, ℕ, suc, ◌+◌, ◌<◌, ◌≤◌, Bool, true, false, ◌&&◌, List, [], ◌∷◌, ◌++◌, length, get_or, refl, sym, ap, ◌∙◌, subst, arith, ◌⊎◌, inl, inr, ⊎_elim}
+use Rattle.std.proofs.Common.{◌≡◌, ℕ, suc, ◌<◌, Bool, true, false, ◌&&◌, List, [], ◌∷◌, ◌++◌, length, refl, sym, ◌∙◌, subst, arith, ◌⊎◌, inl, inr, ⊎_elim}
 use Rattle.std.specs.Prelude.{if◌then◌else◌}
 use Rattle.std.proofs.lemmas.Bool.{true≢false}
 use Rattle.std.proofs.lemmas.List.{append-nil}
 use Rattle.par_moves.specs.declared.locations.Place.{Place}
 use Rattle.par_moves.specs.declared.locations.Place.TheVariants.{Reg, Slot}
-use Rattle.par_moves.specs.Locations.{same_place, InRange, IsKept}
+use Rattle.par_moves.specs.Locations.{same_place, InRange}
 use Rattle.par_moves.specs.Homes.{home_of}
 use Rattle.ssa_form.specs.declared.form.Val.{Val}
 use Rattle.ssa_form.specs.declared.form.Val.TheVariants.{Param, Line as Named, Num}
@@ -182,10 +182,13 @@ module _ (home : ℕ → Place) (homes : (v : ℕ) → home v ≡ home_of v) (on
     exit_in (Island len) h j n = absurd n
 
     after_in : (j : ℕ) → after j ≡ true → Gives k.block.lines j × ((k.body j ≡ true) ⊎ (k.sunk j ≡ true))
-    after_in j h = let n = after_of j h in (end_gives j n, ⊎_elim
-        (λ (e : ExitNames j k.block.exit). inl (exit_in k.block.exit serves.exit j e))
-        (λ e. either_of k.body k.sunk j (named_in on (either k.body k.sunk) (out_at k.block e.0) j (serves.all_outs out e.0 e.1) (it_named (out_at k.block e.0) j e.2)))
-        n)
+    after_in j h = let n = after_of j h in (
+      end_gives j n,
+      ⊎_elim
+          (λ (e : ExitNames j k.block.exit). inl (exit_in k.block.exit serves.exit j e))
+          (λ e. either_of k.body k.sunk j (named_in on (either k.body k.sunk) (out_at k.block e.0) j (serves.all_outs out e.0 e.1) (it_named (out_at k.block e.0) j e.2)))
+          n,
+    )
 
     none_behind : sunk_lines ++ [] ≡ sunk_lines
     none_behind = append-nil sunk_lines
@@ -199,9 +202,11 @@ module _ (home : ℕ → Place) (homes : (v : ℕ) → home v ≡ home_of v) (on
 
     -- what they use at their start is of the body
     pub sunk_before : (j : ℕ) → Used after sunk_lines j → (k.body j ≡ true) × NamedLater k.block j sunk_lines
-    sunk_before j u = (⊎_elim (λ (e : k.body j ≡ true). e) (λ (e : (k.sunk j ≡ true) × (j < 0)). let l = e.1 in absurd (omega (arith, l)))
-        (used_in k.block k.place k.sunk k.body after [] after_in 0 (rows k.block) checks (sunk_names on k.body k.sunk (rows k.block) (serves.sunk out)) j u).1,
-        subst (NamedLater k.block j) none_behind (used_named k.block after [] after_of sunk_lines j u))
+    sunk_before j u = (
+      ⊎_elim (λ (e : k.body j ≡ true). e) (λ (e : (k.sunk j ≡ true) × (j < 0)). let l = e.1 in absurd (omega (arith, l)))
+          (used_in k.block k.place k.sunk k.body after [] after_in 0 (rows k.block) checks (sunk_names on k.body k.sunk (rows k.block) (serves.sunk out)) j u).1,
+      subst (NamedLater k.block j) none_behind (used_named k.block after [] after_of sunk_lines j u),
+    )
 
   pub ready : Ready choice exits
   ready = record {

@@ -1,5 +1,5 @@
 -- Side exits, and the ways to known blocks.
-use Rattle.std.proofs.Common.{◌≡◌, ℕ, ◌+◌, ◌^◌, ◌<◌, Bool, true, false, List, [], ◌∷◌, ◌++◌, map, length, get_or, None, refl, sym, ap, ◌∙◌, subst, arith, inl, inr}
+use Rattle.std.proofs.Common.{◌≡◌, ℕ, ◌+◌, ◌^◌, ◌<◌, Bool, true, false, List, [], ◌∷◌, ◌++◌, length, None, refl, sym, ap, ◌∙◌, subst, arith, inr}
 use Rattle.std.proofs.lemmas.Bool.{ne_eqb}
 use Rattle.br_word.specs.Memory.{Region, HoldBytes}
 use Rattle.br_word.specs.Words.{bit}
@@ -10,15 +10,13 @@ use Rattle.par_moves.specs.Locations.{same_place, IsKept, held}
 use Rattle.par_moves.specs.Homes.{home_of, register_homes}
 use Rattle.ssa_form.specs.declared.form.Val.{Val}
 use Rattle.ssa_form.specs.declared.form.Val.TheVariants.{Param, Line as Named, Num}
-use Rattle.ssa_form.specs.declared.form.Line.{Line}
 use Rattle.ssa_form.specs.Agree.{AreBits, number}
 use Rattle.ssa_form.specs.Value.{Env, AllAllowed, fold, value, outs_of}
 use Rattle.emit_ops.specs.Templates.{held_by}
 use Rattle.fall_stubs.specs.Exchange.{opening_items}
 use Rattle.ia_encode.specs.declared.item.Dest.{Dest}
 use Rattle.ia_encode.specs.declared.item.Dest.TheVariants.{Block as ToBlock, Original as ToOriginal}
-use Rattle.ia_encode.specs.declared.item.Item.{Item}
-use Rattle.ia_encode.specs.declared.item.Item.TheVariants.{Inst as Put, Byte, Jump, Label}
+use Rattle.ia_encode.specs.declared.item.Item.TheVariants.{Jump}
 use Rattle.ia_encode.specs.Items.{size_of_items}
 use Rattle.code_laws.specs.Seen.{Cells, Sees, private_region}
 use Rattle.code_laws.specs.Exchange.{FlagsHeld}
@@ -34,13 +32,13 @@ use Rattle.block_make.specs.Keys.{has}
 use Rattle.block_make.specs.FragmentItems.{lines_items, moves_items, regain_items, stub_items, tail_items}
 use Rattle.sim_runs.specs.Relation.{Plan}
 use Rattle.sim_runs.specs.Laws.{Restored}
-use Rattle.sim_runs.specs.Coding.{Exits, out_at, EndNames, NamedLater, NamesIt}
+use Rattle.sim_runs.specs.Coding.{Exits, out_at, NamedLater}
 use Rattle.sim_runs.specs.Recovered.{Coded}
 use Rattle.sim_runs.specs.Passes.{Gets, StandsFrom, Passes, count_of}
 use Rattle.sim_runs.specs.Pieces.{Held, Tailed}
 use Rattle.sim_runs.proofs.Pass.{gets_then, gets_map, size_cut, stands_cut, count_cut}
 use Rattle.piece_laws.specs.Choices.{coding_of, Suits}
-use Rattle.piece_laws.proofs.Named.{it_named, named_it}
+use Rattle.piece_laws.proofs.Named.{named_it}
 use Rattle.piece_laws.proofs.Served.{sunk_of, Ready}
 use Rattle.piece_laws.proofs.Steps.{Below, lines_get, moves_get, restore_gets, jump_gets}
 

@@ -1,14 +1,12 @@
 -- Each line has a slot of its own, behind those of moves and jumps.
-use Rattle.std.proofs.Common.{◌≡◌, ℕ, zero, suc, ◌+◌, ◌<◌, Bool, true, false, List, [], ◌∷◌, refl, sym, ap, ◌∙◌, subst, arith, Some}
+use Rattle.std.proofs.Common.{◌≡◌, ℕ, zero, suc, ◌+◌, Bool, true, false, List, [], ◌∷◌, refl, sym, ap, subst, arith, Some}
 use Rattle.std.specs.Prelude.{◌||◌, ◌&&◌, slice_get}
 use Rattle.std.proofs.lemmas.Bool.{ne_eqb}
-use Rattle.par_moves.specs.declared.locations.Place.{Place}
 use Rattle.par_moves.specs.declared.locations.Place.TheVariants.{Slot}
 use Rattle.ssa_form.specs.declared.form.Line.{Line}
 use Rattle.ssa_form.specs.Checked.{has_result}
-use Rattle.reg_place.specs.Places.{is_in, line_place, place_for, places_from}
+use Rattle.reg_place.specs.Places.{is_in, place_for, places_from}
 use Rattle.emit_ops.specs.Placed.{place_or}
-use Rattle.block_make.specs.Choices.{Choice, place_in}
 use Rattle.piece_laws.specs.Choices.{IsClear}
 use Rattle.piece_laws.specs.Suited.{SuitsHold}
 

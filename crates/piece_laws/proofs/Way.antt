@@ -17,7 +17,7 @@ use Rattle.par_moves.specs.Homes.{home_of}
 use Rattle.ssa_form.specs.declared.form.Val.{Val}
 use Rattle.ssa_form.specs.Agree.{AreBits}
 use Rattle.ssa_form.specs.Value.{Env, AllAllowed, fold, value, outs_of}
-use Rattle.emit_ops.specs.Templates.{eax, load_reg, test_all, keep, held_by}
+use Rattle.emit_ops.specs.Templates.{eax, load_reg, test_all, keep}
 use Rattle.ia_encode.specs.declared.item.Dest.{Dest}
 use Rattle.ia_encode.specs.declared.item.Dest.TheVariants.{Label as ToLabel}
 use Rattle.ia_encode.specs.declared.item.Item.{Item}
@@ -41,7 +41,7 @@ use Rattle.sim_runs.proofs.Pass.{gets_then, gets_map, stands_cut, count_cut}
 use Rattle.piece_laws.specs.Choices.{coding_of, Suits}
 use Rattle.piece_laws.proofs.Served.{sunk_of, Ready}
 use Rattle.piece_laws.proofs.Steps.{Below, gets_of, puts_stand}
-use Rattle.piece_laws.proofs.Stub.{IsEnd, slot_kept, end_value, regain_gets, sunk_holds, restored}
+use Rattle.piece_laws.proofs.Stub.{IsEnd, end_value, regain_gets, sunk_holds, restored}
 
 module _ (c : Coded) (below : Below c.code) (homes : (v : ℕ) → c.home v ≡ home_of v) (exits : Exits) (choice : Choice) (ready : Ready choice exits) (suits : Suits choice) (are : AreOuts (length choice.block.lines) choice.block.outs) (dest : Dest → ℕ) (env : Env) (a : Cells) (params : (v : ℕ) → env.params v ≡ a.cell (c.home v)) where
   abbrev At : ℕ → State → Type 0

@@ -1,5 +1,5 @@
 -- All the pieces.
-use Rattle.std.proofs.Common.{◌≡◌, ℕ, zero, suc, ◌+◌, ◌-◌, ◌^◌, ◌<◌, Bool, true, false, ◌&&◌, ◌||◌, List, [], ◌∷◌, ◌++◌, map, length, drop, get_or, Some, refl, sym, ap, ◌∙◌, subst, arith, inl, inr, All}
+use Rattle.std.proofs.Common.{◌≡◌, ℕ, zero, suc, ◌+◌, ◌-◌, ◌^◌, ◌<◌, Bool, true, false, ◌&&◌, ◌||◌, List, [], ◌∷◌, ◌++◌, length, drop, get_or, Some, refl, sym, ap, ◌∙◌, subst, arith, inl, inr}
 use Rattle.std.specs.Prelude.{IsTrue, not, ◌==◌, if◌then◌else◌}
 use Rattle.std.proofs.lemmas.Bool.{true≢false, ltb-true, eqb-true}
 use Rattle.std.proofs.lemmas.List.Elements.{All-from_get_or}
@@ -10,10 +10,9 @@ use Rattle.elf_read.specs.declared.exe.Exe.{Exe}
 use Rattle.ia_inst.specs.declared.inst.Inst.{Inst}
 use Rattle.ia_inst.specs.declared.inst.Inst.TheVariants.{Alu}
 use Rattle.ia_inst.specs.declared.inst.Src.TheVariants as src
-use Rattle.ia_inst.specs.Canonical.{canonical, valid_of}
+use Rattle.ia_inst.specs.Canonical.{valid_of}
 use Rattle.ia_encode.specs.declared.item.Dest.{Dest}
 use Rattle.ia_encode.specs.declared.item.Dest.TheVariants as dests
-use Rattle.ia_encode.specs.declared.item.Item.{Item}
 use Rattle.ia_encode.specs.declared.item.Item.TheVariants as item
 use Rattle.ia_encode.specs.Items.{size_of_items, Reads}
 use Rattle.run_model.specs.Edges.{Edge}
@@ -21,7 +20,6 @@ use Rattle.block_cut.specs.Transfers.{is_among}
 use Rattle.block_cut.specs.CountedEdges.{counting}
 use Rattle.flow_graph.specs.Graph.{known_of}
 use Rattle.lift_flow.specs.LiftedBlock.{lift_of}
-use Rattle.par_moves.specs.Locations.{IsFit}
 use Rattle.ssa_form.specs.declared.form.Val.{Val}
 use Rattle.ssa_form.specs.declared.form.Val.TheVariants.{Param, Line as Named, Num}
 use Rattle.ssa_form.specs.declared.form.Line.{Line}
@@ -30,16 +28,16 @@ use Rattle.ssa_form.specs.declared.form.Exit.{Exit}
 use Rattle.ssa_form.specs.declared.form.Exit.TheVariants.{Jump, Cond, Way, Island}
 use Rattle.ssa_form.specs.Agree.{AreBits, number}
 use Rattle.ssa_form.specs.Same.{rows}
-use Rattle.ssa_form.specs.Value.{Env, fold, AllAllowed, IsAllowed, line_next, outs_of, exit_of}
+use Rattle.ssa_form.specs.Value.{Env, AllAllowed, IsAllowed, line_next, outs_of, exit_of}
 use Rattle.emit_ops.specs.Sequences.{kept}
-use Rattle.emit_ops.specs.Templates.{eax, load_reg, test_all}
+use Rattle.emit_ops.specs.Templates.{eax, load_reg}
 use Rattle.code_laws.specs.Seen.{Cells}
 use Rattle.code_laws.specs.Laws.{IsOperand}
 use Rattle.code_laws.specs.Moves.{AreOuts}
-use Rattle.block_make.specs.Choices.{Choice, place_in}
+use Rattle.block_make.specs.Choices.{Choice}
 use Rattle.block_make.specs.FragmentItems.{source_in}
 use Rattle.sim_runs.specs.Lines.{NamedIn, IsSunk, AllSunk}
-use Rattle.sim_runs.specs.Coding.{out_at, Coding, Exits, SameKind, ExitIn, NamesIt, ExitNames, EndNames, NamedLater, Serves}
+use Rattle.sim_runs.specs.Coding.{out_at, Coding, Exits, SameKind, ExitIn, NamesIt, ExitNames, EndNames, NamedLater}
 use Rattle.sim_runs.specs.Recovered.{Coded, knows_of, plan_of}
 use Rattle.sim_runs.specs.Relation.{Plan}
 use Rattle.sim_runs.specs.Laws.{Restored}
@@ -48,7 +46,7 @@ use Rattle.sim_runs.specs.Passes.{Gets, StandsFrom, Passes, count_of}
 use Rattle.sim_runs.specs.Pieces.{Held, Aimed, is_out, is_way, is_cond, test_of, body_end, whole_end, PiecesRun}
 use Rattle.sim_runs.specs.Given.{Given, CodingGives}
 use Rattle.piece_laws.specs.Choices.{coding_of, Suits}
-use Rattle.piece_laws.specs.Pieces.{set_of, label_of, ask_of, aim_of, way_of, pieces_of, IsHome, LiveSets, GoesTo, PiecesDo}
+use Rattle.piece_laws.specs.Pieces.{set_of, label_of, ask_of, aim_of, way_of, pieces_of, IsHome, LiveSets, GoesTo}
 use Rattle.piece_laws.proofs.Checked.{Checks, ExitChecks, exit_checks, out_checks, are_outs}
 use Rattle.piece_laws.proofs.Served.{body_of, sunk_of, Ready, ready}
 use Rattle.piece_laws.proofs.Steps.{Below}

@@ -24,7 +24,8 @@ pub record HomesMeet (homes : Homes) (plan : Plan) : Type 0 where
 abbrev pub OpensJoined : Type 0
 OpensJoined = (homes : Homes) (plan : Plan) (dest : Dest → ℕ) → HomesMeet homes plan
     → (x label to : ℕ) (bytes : List ℕ) (next : Dest) (t : State) (a : Cells) (cs : List ℕ)
-    → Stands dest plan.code (plan.address x) (island_items homes bytes label next) to → own_start homes label (plan.address x) ≡ plan.native x
+    → Stands dest plan.code (plan.address x) (island_items homes bytes label next) to
+    → own_start homes label (plan.address x) ≡ plan.native x
     → Sees plan.code t a → t.eip ≡ plan.address x → AreBits (at_home plan a) → Leads (Opens plan x a) (length homes + 28) t cs
 
 -- From the byte behind them to the fragment of a start, whose homes then hold registers and flags.

@@ -1,5 +1,5 @@
 -- The items of a fragment are those of its pieces.
-use Rattle.std.specs.Prelude.{◌≡◌, ℕ, List, map}
+use Rattle.std.specs.Prelude.{◌≡◌, List, map}
 use Rattle.elf_read.specs.declared.exe.Exe.{Exe}
 use Rattle.run_model.specs.Edges.{Edge}
 use Rattle.block_cut.specs.CountedEdges.{counting}

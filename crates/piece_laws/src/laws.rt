@@ -4,7 +4,9 @@ ghost use Rattle.piece_laws.specs.Marked.{MarkedServe};
 ghost use Rattle.piece_laws.specs.Pieces.{PiecesDo};
 ghost use Rattle.piece_laws.specs.Suited.{SuitsHold};
 
-use code_laws::{exchange_keeps, jumps_lead, lines_hold, moves_settle, slots_serve, template_means, tests_mean};
+use code_laws::{
+    exchange_keeps, jumps_lead, lines_hold, moves_settle, slots_serve, template_means, tests_mean,
+};
 use ia_decode::read_is_valid;
 use run_model::memory_of_bytes;
 use sim_runs::coding_gives;
