@@ -1,33 +1,30 @@
 -- The body of a fragment.
-use Rattle.std.proofs.Common.{◌≡◌, ℕ, ◌+◌, Bool, true, List, [], ◌∷◌, map, length, Some, refl, sym, ap, ◌∙◌, subst, arith}
-use Rattle.br_word.specs.Memory.{Region, HoldBytes, store}
+use Rattle.std.proofs.Common.{◌≡◌, ℕ, ◌+◌, List, [], ◌∷◌, length, refl, sym, ap, ◌∙◌, subst, arith}
+use Rattle.br_word.specs.Memory.{Region, HoldBytes}
 use Rattle.br_word.specs.Words.{size_of}
 use Rattle.br_word.specs.State.{State}
 use Rattle.run_model.specs.Sound.{StoresBytes}
 use Rattle.par_moves.specs.Homes.{home_of}
 use Rattle.ssa_form.specs.declared.form.Line.{Line}
 use Rattle.ssa_form.specs.declared.form.Line.TheVariants.{Bin, One, Select, Load, Store, Gone}
-use Rattle.ssa_form.specs.declared.form.Block.{Block}
 use Rattle.ssa_form.specs.Same.{start_env}
 use Rattle.ssa_form.specs.Value.{Env, line_next, IsAllowed, AllAllowed, fold, stored, value}
-use Rattle.emit_ops.specs.Sequences.{lines_code}
 use Rattle.par_moves.specs.declared.locations.Place.{Place}
 use Rattle.ia_encode.specs.declared.item.Dest.{Dest}
-use Rattle.ia_encode.specs.declared.item.Item.TheVariants.{Inst as Put}
 use Rattle.ia_encode.specs.Items.{size_of_items}
 use Rattle.code_laws.specs.Seen.{Cells, Sees}
 use Rattle.code_laws.specs.Placed.{AllHigh, Left}
 use Rattle.code_laws.specs.Laws.{Comes}
-use Rattle.block_make.specs.Choices.{Choice}
+use Rattle.block_make.specs.Choices.{Choice, place_in}
 use Rattle.block_make.specs.FragmentItems.{lines_items}
 use Rattle.sim_laws.specs.Wider as wider
-use Rattle.sim_runs.specs.Coding.{Exits, Serves}
+use Rattle.sim_runs.specs.Coding.{Exits}
 use Rattle.sim_runs.specs.Recovered.{Coded}
 use Rattle.sim_runs.specs.Passes.{Gets, StandsFrom, count_of}
 use Rattle.sim_runs.specs.Pieces.{Held}
 use Rattle.sim_runs.proofs.Pass.{gets_map}
-use Rattle.piece_laws.specs.Choices.{coding_of, Suits}
-use Rattle.piece_laws.proofs.Served.{limit, body_lines, sunk_lines, laid, last, body_named, body_safe, body_unused}
+use Rattle.piece_laws.specs.Choices.{coding_of}
+use Rattle.piece_laws.proofs.Served.{body_of, Ready}
 use Rattle.piece_laws.proofs.Steps.{Below, lines_get}
 
 high_of : (rs : List Region) → wider.AllHigh 0x08000000 rs → AllHigh 0x07010000 rs
@@ -59,44 +56,39 @@ pub fold_params : (ps : List (ℕ × Line)) (e : Env) (v : ℕ) → (fold ps e).
 fold_params [] e v = refl
 fold_params (p ∷ ps) e v = fold_params ps (line_next p.0 p.1 e) v ∙ next_params p.0 p.1 e v
 
-module _ (c : Coded) (below : Below c.code) (homes : (v : ℕ) → c.home v ≡ home_of v) (on : ℕ → Bool) (b : Block) (exits : Exits) (choice : Choice) (serves : Serves c.home on b exits (coding_of choice)) (suits : Suits choice) where
+module _ (c : Coded) (below : Below c.code) (homes : (v : ℕ) → c.home v ≡ home_of v) (exits : Exits) (choice : Choice) (ready : Ready choice exits) where
   abbrev entry : Cells → Env
   entry a = start_env (λ v. a.cell (c.home v)) a.outer
 
   abbrev lines : List (ℕ × Line)
-  lines = body_lines c.home homes on b exits choice serves suits
-
-  abbrev lasts : ℕ → Bool
-  lasts = last c.home homes on b exits choice serves suits
+  lines = body_of choice
 
   abbrev small : ℕ
-  small = limit c.home homes on b exits choice serves suits
+  small = length choice.block.lines
 
   abbrev place : ℕ → Place
-  place = (coding_of choice).place
+  place = place_in choice
 
   pub body_held : (a : Cells) → wider.AllHigh 0x08000000 a.outer → HoldBytes a.outer → AllAllowed lines (entry a) →
       (dest : Dest → ℕ) (at : ℕ) (u : State) (cs : List ℕ) → StandsFrom dest c.code at (lines_items choice choice.split.body) → Sees c.code u a → u.eip ≡ at →
       Gets (Held c (coding_of choice) (fold lines (entry a)) a (at + size_of_items (lines_items choice choice.split.body))) 0 (count_of (lines_items choice choice.split.body)) u cs
   body_held a high bytes allowed dest at u cs s h e =
       let to = at + size_of_items (lines_items choice choice.split.body) in
-      let P = Comes c.code to (Left small home_of place lasts [] (fold lines (entry a)) a) in
+      let P = Comes c.code to (Left small home_of place ready.last [] (fold lines (entry a)) a) in
       let H = Held c (coding_of choice) (fold lines (entry a)) a to in
       gets_map P H 0 0 _ _ u cs (omega arith) (omega arith) (λ t q. given t q)
-      (lines_get c.code below dest small home_of place lasts (laid c.home homes on b exits choice serves suits) lines (entry a) a at u cs (body_safe c.home homes on b exits choice serves suits)
-      (record { params = λ v l. sym (ap a.cell (homes v)); lines = λ j l used. absurd (body_unused c.home homes on b exits choice serves suits j used); mem = refl; high = high_of a.outer high; bytes = bytes })
+      (lines_get c.code below dest small home_of place ready.last ready.laid lines (entry a) a at u cs ready.body_safe
+      (record { params = λ v l. sym (ap a.cell (homes v)); lines = λ j l used. absurd (ready.body_unused j used); mem = refl; high = high_of a.outer high; bytes = bytes })
       allowed s h e)
     where
-      given : (t : State) → Comes c.code (at + size_of_items (lines_items choice choice.split.body)) (Left small home_of place lasts [] (fold lines (entry a)) a) t → Held c (coding_of choice) (fold lines (entry a)) a (at + size_of_items (lines_items choice choice.split.body)) t
-      given t q =
-          let laid_here = laid c.home homes on b exits choice serves suits in
-          record {
-            cells = q.cells;
-            sees = q.sees;
-            eip = q.eip;
-            homes = λ v l. ap q.cells.cell (homes v) ∙ q.holds.kept (home_of v) (laid_here.homes_fit v l) (laid_here.homes v l) (λ j m. laid_here.apart v j l m) ∙ sym (ap a.cell (homes v));
-            lines = λ j k n. let m = body_named c.home homes on b exits choice serves suits j k n in q.holds.holds.lines j m.0 m.1;
-            outer = q.holds.holds.mem;
-            high = q.holds.holds.high;
-            stays = record { shows = q.holds.seen; brk_start = q.holds.brk_start; brk = q.holds.brk };
-          }
+      given : (t : State) → Comes c.code (at + size_of_items (lines_items choice choice.split.body)) (Left small home_of place ready.last [] (fold lines (entry a)) a) t → Held c (coding_of choice) (fold lines (entry a)) a (at + size_of_items (lines_items choice choice.split.body)) t
+      given t q = record {
+        cells = q.cells;
+        sees = q.sees;
+        eip = q.eip;
+        homes = λ v l. ap q.cells.cell (homes v) ∙ q.holds.kept (home_of v) (ready.laid.homes_fit v l) (ready.laid.homes v l) (λ j m. ready.laid.apart v j l m) ∙ sym (ap a.cell (homes v));
+        lines = λ j k n. let m = ready.body_named j k n in q.holds.holds.lines j m.0 m.1;
+        outer = q.holds.holds.mem;
+        high = q.holds.holds.high;
+        stays = record { shows = q.holds.seen; brk_start = q.holds.brk_start; brk = q.holds.brk };
+      }

@@ -1,5 +1,5 @@
 -- What checked blocks name, row by row.
-use Rattle.std.proofs.Common.{◌≡◌, ◌≢◌, ℕ, zero, suc, ◌+◌, ◌^◌, ◌<◌, ◌≤◌, Bool, true, false, ◌&&◌, List, [], ◌∷◌, length, get_or, refl, sym, ap, ◌∙◌, subst, arith, ◌⊎◌, inl, inr}
+use Rattle.std.proofs.Common.{◌≡◌, ℕ, zero, suc, ◌+◌, ◌<◌, ◌≤◌, Bool, true, false, ◌&&◌, List, [], ◌∷◌, length, get_or, refl, sym, ap, ◌∙◌, subst, arith, inl, inr}
 use Rattle.std.specs.Prelude.{IsTrue, nat_lt, nat_eq}
 use Rattle.std.proofs.lemmas.Bool.{ltb-true, eqb-true, true≢false}
 use Rattle.ssa_form.specs.declared.form.Val.{Val}
@@ -98,9 +98,13 @@ rows_from : (ls : List Line) (at : ℕ) (rest : List Line) → at + length rest 
 rows_from ls at [] n e h w = omega (arith, n)
 rows_from ls at (l ∷ rest) n e h w =
     let q = both (line_checked ls at l) (lines_checked ls (suc at) rest) h in
-    let z : at + 0 ≡ at = omega arith in
-    (refl, ap (λ k. get_or ls k Gone) (sym z) ∙ e 0, line_checks ls at l q.0, w.0,
-    rows_from ls (suc at) rest (omega (arith, n)) (λ i. let y : suc at + i ≡ at + suc i = omega arith in ap (λ k. get_or ls k Gone) y ∙ e (suc i)) q.1 w.1)
+    let z : at + 0 ≡ at = omega arith in (
+      refl,
+      ap (λ k. get_or ls k Gone) (sym z) ∙ e 0,
+      line_checks ls at l q.0,
+      w.0,
+      rows_from ls (suc at) rest (omega (arith, n)) (λ i. let y : suc at + i ≡ at + suc i = omega arith in ap (λ k. get_or ls k Gone) y ∙ e (suc i)) q.1 w.1,
+    )
 
 module _ (b : Block) (ok : IsTrue (checked b)) (words : SpellsWords b) where
   parts : (nat_eq (length b.outs) 14 ≡ true) × (lines_checked b.lines 0 b.lines ≡ true) × (vals_checked b.lines (length b.lines) b.outs ≡ true) × (exit_checked b.lines (length b.lines) b.exit ≡ true)

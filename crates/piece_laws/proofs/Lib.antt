@@ -7,3 +7,7 @@ mod Body
 mod Stub
 mod Way
 mod Whole
+mod Joined
+mod Suited
+mod Capture
+mod Marked

@@ -1,5 +1,5 @@
 -- Whether lines, outs or the exit name a line, decided.
-use Rattle.std.proofs.Common.{◌≡◌, ℕ, zero, suc, ◌+◌, ◌<◌, Bool, true, false, ◌||◌, List, [], ◌∷◌, ◌++◌, length, get_or, refl, sym, ap, ◌∙◌, subst, arith, ◌⊎◌, inl, inr, ⊎_elim}
+use Rattle.std.proofs.Common.{◌≡◌, ℕ, zero, suc, ◌<◌, Bool, true, false, ◌||◌, List, [], ◌∷◌, ◌++◌, length, get_or, refl, sym, ap, arith, ◌⊎◌, inl, inr, ⊎_elim}
 use Rattle.std.specs.Prelude.{nat_eq}
 use Rattle.std.proofs.lemmas.Bool.{eqb-true, eq-eqb, true≢false}
 use Rattle.ssa_form.specs.declared.form.Val.{Val}
@@ -10,7 +10,7 @@ use Rattle.ssa_form.specs.declared.form.Exit.{Exit}
 use Rattle.ssa_form.specs.declared.form.Exit.TheVariants.{Jump, Cond, Way, Island}
 use Rattle.ssa_form.specs.declared.form.Block.{Block}
 use Rattle.code_laws.specs.Placed.{IsNamed, Names, Later, Used}
-use Rattle.sim_runs.specs.Coding.{out_at, NamesIt, LineNames, ExitNames, EndNames, NamedLater}
+use Rattle.sim_runs.specs.Coding.{NamesIt, LineNames, ExitNames, NamedLater}
 
 names_it : ℕ → Val → Bool
 names_it i (Param v) = false
@@ -142,7 +142,7 @@ it_named (Param v) j h = h
 it_named (Named k) j h = h
 it_named (Num n) j h = h
 
-named_it : (v : Val) (j : ℕ) → IsNamed v j → NamesIt j v
+pub named_it : (v : Val) (j : ℕ) → IsNamed v j → NamesIt j v
 named_it (Param v) j h = h
 named_it (Named k) j h = h
 named_it (Num n) j h = h

@@ -1,6 +1,6 @@
 -- A coding that serves a checked block places its lines safely.
-use Rattle.std.proofs.Common.{◌≡◌, ◌≢◌, ℕ, zero, suc, ◌+◌, ◌<◌, ◌≤◌, Bool, true, false, ◌&&◌, List, [], ◌∷◌, ◌++◌, length, get_or, refl, sym, ap, ◌∙◌, subst, arith, ◌⊎◌, inl, inr, ⊎_elim}
-use Rattle.std.specs.Prelude.{nat_eq, ◌==◌, if◌then◌else◌}
+use Rattle.std.proofs.Common.{◌≡◌, ◌≢◌, ℕ, suc, ◌<◌, ◌≤◌, Bool, true, false, List, [], ◌∷◌, ◌++◌, length, get_or, refl, sym, ap, ◌∙◌, subst, arith, ◌⊎◌, inl, inr, ⊎_elim}
+use Rattle.std.specs.Prelude.{nat_eq, if◌then◌else◌}
 use Rattle.std.proofs.lemmas.Bool.{eqb-true, eq-eqb, true≢false}
 use Rattle.par_moves.specs.declared.locations.Place.{Place}
 use Rattle.par_moves.specs.declared.locations.Place.TheVariants.{Reg, Slot}
@@ -12,7 +12,7 @@ use Rattle.ssa_form.specs.Checked.{has_result}
 use Rattle.code_laws.specs.Placed.{Names, Used, Later, IsSpare, Safe}
 use Rattle.emit_ops.specs.Sequences.{kept}
 use Rattle.sim_runs.specs.Coding.{HasResult, NamedLater, IsKept, NoneLost}
-use Rattle.piece_laws.proofs.Checked.{Gives, gives_low, LineChecks, line_names, line_fits, RowsCheck}
+use Rattle.piece_laws.proofs.Checked.{Gives, gives_low, line_names, line_fits, RowsCheck}
 use Rattle.piece_laws.proofs.Named.{used_named, later_of}
 
 place_same : (p q : Place) → same_place p q ≡ true → p ≡ q
@@ -21,7 +21,7 @@ place_same (Slot a) (Slot b) h = ap (λ k. Slot k) (eqb-true a b h)
 place_same (Reg a) (Slot b) h = absurd (true≢false (sym h))
 place_same (Slot a) (Reg b) h = absurd (true≢false (sym h))
 
-places_differ : (p q : Place) → (q ≡ p → ⊥) → same_place p q ≡ false
+pub places_differ : (p q : Place) → (q ≡ p → ⊥) → same_place p q ≡ false
 places_differ p q n = go (same_place p q) refl
   where
     go : (b : Bool) → same_place p q ≡ b → b ≡ false
@@ -107,11 +107,13 @@ module _ (b : Block) (place : ℕ → Place) where
             let d : j ≢ at = (λ f. own_later p.1 p.0 j (Used last (kept set ps) j) h (ap has_result (sym c.1) ∙ ap (λ k. has_result (get_or b.lines k Gone)) (sym f) ∙ q.0) (f ∙ sym c.0)) in
             (q.0, earlier at j d q.1)
         go false e v behind =
-            let q = behind v in
-            (q.0, ⊎_elim (λ (g : given j ≡ true). inl g) (λ (s : (set j ≡ true) × (j < suc at)).
-            let d : j ≢ at = (λ f. true≢false (sym s.0 ∙ ap set (f ∙ sym c.0) ∙ e)) in
-            let l = s.1 in
-            inr (s.0, omega arith)) q.1)
+            let q = behind v in (
+              q.0,
+              ⊎_elim (λ (g : given j ≡ true). inl g) (λ (s : (set j ≡ true) × (j < suc at)).
+                  let d : j ≢ at = (λ f. true≢false (sym s.0 ∙ ap set (f ∙ sym c.0) ∙ e)) in
+                  let l = s.1 in
+                  inr (s.0, omega arith)) q.1,
+            )
 
     -- no line takes a place that is still used
     pub safe_in : LastIn → ((j : ℕ) → last j ≡ true → NamedLater b j tail) → (at : ℕ) (ps : List (ℕ × Line)) → at ≤ length b.lines → RowsCheck b.lines at ps → Names_in given set ps →

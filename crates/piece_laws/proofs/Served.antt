@@ -1,11 +1,11 @@
 -- What a choice that serves its block and suits has: safe places for its body and for its sunk lines.
-use Rattle.std.proofs.Common.{◌≡◌, ◌≢◌, ℕ, ◌+◌, ◌<◌, ◌≤◌, Bool, true, false, ◌&&◌, List, [], ◌∷◌, ◌++◌, length, get_or, refl, sym, ap, ◌∙◌, subst, arith, ◌⊎◌, inl, inr, ⊎_elim}
+use Rattle.std.proofs.Common.{◌≡◌, ℕ, suc, ◌<◌, Bool, true, false, ◌&&◌, List, [], ◌∷◌, ◌++◌, length, refl, sym, ◌∙◌, subst, arith, ◌⊎◌, inl, inr, ⊎_elim}
 use Rattle.std.specs.Prelude.{if◌then◌else◌}
 use Rattle.std.proofs.lemmas.Bool.{true≢false}
 use Rattle.std.proofs.lemmas.List.{append-nil}
 use Rattle.par_moves.specs.declared.locations.Place.{Place}
 use Rattle.par_moves.specs.declared.locations.Place.TheVariants.{Reg, Slot}
-use Rattle.par_moves.specs.Locations.{same_place, InRange, IsKept}
+use Rattle.par_moves.specs.Locations.{same_place, InRange}
 use Rattle.par_moves.specs.Homes.{home_of}
 use Rattle.ssa_form.specs.declared.form.Val.{Val}
 use Rattle.ssa_form.specs.declared.form.Val.TheVariants.{Param, Line as Named, Num}
@@ -17,7 +17,8 @@ use Rattle.ssa_form.specs.declared.form.Block.{Block}
 use Rattle.ssa_form.specs.Same.{rows}
 use Rattle.emit_ops.specs.Sequences.{kept}
 use Rattle.code_laws.specs.Placed.{IsNamed, Names, Used, Laid, Safe}
-use Rattle.block_make.specs.Choices.{Choice}
+use Rattle.reg_place.specs.Places.{is_in}
+use Rattle.block_make.specs.Choices.{Choice, place_in}
 use Rattle.sim_runs.specs.Lines.{NamedIn, LineIn, Closed, either, IsSunk, AllSunk}
 use Rattle.sim_runs.specs.Coding.{out_at, Coding, Exits, ExitIn, ExitNames, EndNames, NamedLater, IsPlace, IsKept as KeptPlace, NoneLost, Serves}
 use Rattle.piece_laws.specs.Choices.{coding_of, Suits}
@@ -65,17 +66,37 @@ sunk_names : (on body sunk : ℕ → Bool) (ps : List (ℕ × Line)) → AllSunk
 sunk_names on body sunk [] h = tt
 sunk_names on body sunk (p ∷ ps) h = ((λ e j n. either_of body sunk j (sunk_in on body sunk p.1 j (h.0 e) n)), sunk_names on body sunk ps h.1)
 
+abbrev pub body_of : Choice → List (ℕ × Line)
+body_of choice = kept (is_in choice.split.body) (rows choice.block)
+
+abbrev pub sunk_of : Choice → List (ℕ × Line)
+sunk_of choice = kept (is_in choice.split.sunk) (rows choice.block)
+
+-- all of it
+pub record Ready (choice : Choice) (exits : Exits) : Type 0 where
+  pub laid : Laid (length choice.block.lines) home_of (place_in choice)
+  -- named behind the body
+  pub last : ℕ → Bool
+  pub body_safe : Safe (length choice.block.lines) (place_in choice) last (body_of choice)
+  pub body_unused : (j : ℕ) → Used last (body_of choice) j → ⊥
+  pub body_named : (j : ℕ) → is_in choice.split.body j ≡ true → NamedLater choice.block j (sunk_of choice) → (j < length choice.block.lines) × (last j ≡ true)
+  -- named behind the sunk lines
+  pub after : ℕ → Bool
+  pub sunk_safe : exits.unknown ≡ true → Safe (length choice.block.lines) (place_in choice) after (sunk_of choice)
+  pub sunk_before : exits.unknown ≡ true → (j : ℕ) → Used after (sunk_of choice) j → (is_in choice.split.body j ≡ true) × NamedLater choice.block j (sunk_of choice)
+  pub after_out : (j : ℕ) → EndNames choice.block j → (j < length choice.block.lines) × (after j ≡ true)
+
 module _ (home : ℕ → Place) (homes : (v : ℕ) → home v ≡ home_of v) (on : ℕ → Bool) (b : Block) (exits : Exits) (choice : Choice) (serves : Serves home on b exits (coding_of choice)) (suits : Suits choice) where
   abbrev k : Coding
   k = coding_of choice
 
-  abbrev pub limit : ℕ
+  abbrev limit : ℕ
   limit = length choice.block.lines
 
-  abbrev pub body_lines : List (ℕ × Line)
+  abbrev body_lines : List (ℕ × Line)
   body_lines = kept k.body (rows k.block)
 
-  abbrev pub sunk_lines : List (ℕ × Line)
+  abbrev sunk_lines : List (ℕ × Line)
   sunk_lines = kept k.sunk (rows k.block)
 
   checks : RowsCheck k.block.lines 0 (rows k.block)
@@ -111,7 +132,7 @@ module _ (home : ℕ → Place) (homes : (v : ℕ) → home v ≡ home_of v) (on
 
   later_gives : (set : ℕ → Bool) (at : ℕ) (ps : List (ℕ × Line)) → RowsCheck k.block.lines at ps → (j : ℕ) → NamedLater k.block j (kept set ps) → Gives k.block.lines j
   later_gives set at [] c j n = end_gives j n
-  later_gives set at (p ∷ ps) c j n = go (set p.0) n (later_gives set (1 + at) ps c.4 j)
+  later_gives set at (p ∷ ps) c j n = go (set p.0) n (later_gives set (suc at) ps c.4 j)
     where
       go : (x : Bool) → NamedLater k.block j (if x then p ∷ kept set ps else kept set ps) → (NamedLater k.block j (kept set ps) → Gives k.block.lines j) → Gives k.block.lines j
       go true (inl n) rest = (line_names k.block.lines at p.1 j c.2 (it_line_named p.1 j n)).1
@@ -145,9 +166,9 @@ module _ (home : ℕ → Place) (homes : (v : ℕ) → home v ≡ home_of v) (on
   pub after : ℕ → Bool
   after j = named_later k.block j []
 
-  pub after_out : (v j : ℕ) → v < 14 → EndNames k.block j → after j ≡ true
+  after_out : (j : ℕ) → EndNames k.block j → (j < limit) × (after j ≡ true)
   unfolding after
-  after_out v j l n = later_true k.block j [] n
+  after_out j n = (gives_low k.block.lines j (end_gives j n), later_true k.block j [] n)
 
   after_of : (j : ℕ) → after j ≡ true → EndNames k.block j
   unfolding after
@@ -161,10 +182,13 @@ module _ (home : ℕ → Place) (homes : (v : ℕ) → home v ≡ home_of v) (on
     exit_in (Island len) h j n = absurd n
 
     after_in : (j : ℕ) → after j ≡ true → Gives k.block.lines j × ((k.body j ≡ true) ⊎ (k.sunk j ≡ true))
-    after_in j h = let n = after_of j h in (end_gives j n, ⊎_elim
-        (λ (e : ExitNames j k.block.exit). inl (exit_in k.block.exit serves.exit j e))
-        (λ e. either_of k.body k.sunk j (named_in on (either k.body k.sunk) (out_at k.block e.0) j (serves.all_outs out e.0 e.1) (it_named (out_at k.block e.0) j e.2)))
-        n)
+    after_in j h = let n = after_of j h in (
+      end_gives j n,
+      ⊎_elim
+          (λ (e : ExitNames j k.block.exit). inl (exit_in k.block.exit serves.exit j e))
+          (λ e. either_of k.body k.sunk j (named_in on (either k.body k.sunk) (out_at k.block e.0) j (serves.all_outs out e.0 e.1) (it_named (out_at k.block e.0) j e.2)))
+          n,
+    )
 
     none_behind : sunk_lines ++ [] ≡ sunk_lines
     none_behind = append-nil sunk_lines
@@ -178,6 +202,21 @@ module _ (home : ℕ → Place) (homes : (v : ℕ) → home v ≡ home_of v) (on
 
     -- what they use at their start is of the body
     pub sunk_before : (j : ℕ) → Used after sunk_lines j → (k.body j ≡ true) × NamedLater k.block j sunk_lines
-    sunk_before j u = (⊎_elim (λ (e : k.body j ≡ true). e) (λ (e : (k.sunk j ≡ true) × (j < 0)). let l = e.1 in absurd (omega (arith, l)))
-        (used_in k.block k.place k.sunk k.body after [] after_in 0 (rows k.block) checks (sunk_names on k.body k.sunk (rows k.block) (serves.sunk out)) j u).1,
-        subst (NamedLater k.block j) none_behind (used_named k.block after [] after_of sunk_lines j u))
+    sunk_before j u = (
+      ⊎_elim (λ (e : k.body j ≡ true). e) (λ (e : (k.sunk j ≡ true) × (j < 0)). let l = e.1 in absurd (omega (arith, l)))
+          (used_in k.block k.place k.sunk k.body after [] after_in 0 (rows k.block) checks (sunk_names on k.body k.sunk (rows k.block) (serves.sunk out)) j u).1,
+      subst (NamedLater k.block j) none_behind (used_named k.block after [] after_of sunk_lines j u),
+    )
+
+  pub ready : Ready choice exits
+  ready = record {
+    laid = laid;
+    last = last;
+    body_safe = body_safe;
+    body_unused = body_unused;
+    body_named = body_named;
+    after = after;
+    sunk_safe = sunk_safe;
+    sunk_before = sunk_before;
+    after_out = after_out;
+  }

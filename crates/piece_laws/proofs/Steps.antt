@@ -18,7 +18,6 @@ use Rattle.ssa_form.specs.Value.{Env, AllAllowed, fold}
 use Rattle.emit_ops.specs.Sequences.{lines_code, moves_code, live_moves, in_order}
 use Rattle.fall_stubs.specs.Exchange.{restore_items}
 use Rattle.ia_encode.specs.declared.item.Dest.{Dest}
-use Rattle.ia_encode.specs.declared.item.Item.{Item}
 use Rattle.ia_encode.specs.declared.item.Item.TheVariants.{Inst as Put, Jump}
 use Rattle.ia_encode.specs.Items.{size_of_items, jump_inst, distance, Reads, Stands, StandsAt}
 use Rattle.code_laws.specs.Seen.{Cells, Sees, Leads, Quiet}

@@ -1,9 +1,8 @@
 -- The pieces of a fragment, in the words of block_make, and that they do what they have to.
-use Rattle.std.specs.Prelude.{◌≡◌, ℕ, suc, ◌+◌, ◌^◌, ◌<◌, ◌==◌, Bool, true, List, [], ◌∷◌, Option, Some, None, get_or, if◌then◌else◌}
+use Rattle.std.specs.Prelude.{◌≡◌, ℕ, suc, ◌^◌, ◌<◌, ◌==◌, Bool, true, List, [], ◌∷◌, Option, Some, None, get_or, if◌then◌else◌}
 use Rattle.br_word.specs.declared.types.Width.TheVariants.{B32}
 use Rattle.br_word.specs.State.{State}
 use Rattle.elf_read.specs.declared.exe.Exe.{Exe}
-use Rattle.ia_inst.specs.declared.inst.Inst.{Inst}
 use Rattle.ia_inst.specs.declared.inst.Inst.TheVariants.{Alu}
 use Rattle.ia_inst.specs.declared.inst.Src.TheVariants as src
 use Rattle.ia_encode.specs.declared.item.Dest.{Dest}

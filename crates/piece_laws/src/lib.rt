@@ -2,6 +2,8 @@
 //! pieces, and the exchange of state is what it asks round a native instruction. Each is the contract of a call that does nothing.
 #![tactic(auto)]
 
+mod exchange;
 mod laws;
 
-pub use laws::pieces_do;
+pub use exchange::{captures_joined, opens_joined};
+pub use laws::{items_are_pieces, marked_serve, pieces_do, suits_hold};
