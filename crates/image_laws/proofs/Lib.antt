@@ -1,2 +1,7 @@
 mod Places
 mod Standing
+mod LiftedBlocks
+mod Serving
+mod Files
+mod NativeCode
+mod Laying
