@@ -5,3 +5,5 @@ mod Serving
 mod Files
 mod NativeCode
 mod Laying
+mod Leading
+mod Exchanging

@@ -133,7 +133,7 @@ module _ (laws : Decodes) (exe : Exe) (edges : List Edge) (x : ℕ) (start : is_
   has_bytes : (1 ≤ n) × (n ≤ 15) × (n ≤ length (code_at x exe.segments))
   has_bytes = laws.long (code_at x exe.segments) inst n spelled
 
-  own_long : length (own_of exe x) ≡ n
+  pub own_long : length (own_of exe x) ≡ n
   own_long = length-take-le n (code_at x exe.segments) has_bytes.2
 
   sizes : size_of_items (start_items exe edges x) ≡ size_of_items opening + (n + size_of_items closing)

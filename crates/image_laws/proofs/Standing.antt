@@ -74,7 +74,7 @@ no_more bytes = let z : length bytes - length bytes ≡ 0 = omega arith in ap (�
 pub same_bytes : (exe : Exe) (edges : List Edge) → (coded_of exe edges).code.bytes ≡ code_of exe edges
 same_bytes exe edges = no_more (code_of exe edges)
 
-whole : (exe : Exe) (edges : List Edge) → code_of exe edges ≡ bytes_at (address_of exe edges) CODE_START (entry_of exe edges) ++ bytes_from (address_of exe edges) (first_at (entry_of exe edges)) (fragments_of exe (keys_of exe edges))
+pub whole : (exe : Exe) (edges : List Edge) → code_of exe edges ≡ bytes_at (address_of exe edges) CODE_START (entry_of exe edges) ++ bytes_from (address_of exe edges) (first_at (entry_of exe edges)) (fragments_of exe (keys_of exe edges))
 unfolding code_of linked
 whole exe edges = refl
 

@@ -2,3 +2,4 @@ pub mod Coded
 pub mod Stands
 pub mod Serves
 pub mod Laid
+pub mod Exchanged
