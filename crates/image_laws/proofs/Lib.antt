@@ -7,3 +7,4 @@ mod NativeCode
 mod Laying
 mod Leading
 mod Exchanging
+mod Meeting

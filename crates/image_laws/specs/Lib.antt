@@ -3,3 +3,4 @@ pub mod Stands
 pub mod Serves
 pub mod Laid
 pub mod Exchanged
+pub mod Law

@@ -3,10 +3,12 @@
 
 mod exchanged;
 mod laid;
+mod law;
 mod serves;
 mod stands;
 
 pub use exchanged::states_exchanged;
 pub use laid::{images_hold, images_laid};
+pub use law::images_meet;
 pub use serves::{codings_serve, lifted_blocks};
 pub use stands::code_stands;
