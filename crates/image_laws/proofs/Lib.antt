@@ -1,2 +1,10 @@
 mod Places
 mod Standing
+mod LiftedBlocks
+mod Serving
+mod Files
+mod NativeCode
+mod Laying
+mod Leading
+mod Exchanging
+mod Meeting

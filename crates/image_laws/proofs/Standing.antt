@@ -1,5 +1,5 @@
 -- Where the parts of recovered code stand.
-use Rattle.std.proofs.Common.{◌≡◌, ℕ, ◌+◌, ◌-◌, ◌≤◌, Bool, true, false, List, [], ◌∷◌, ◌++◌, length, map, refl, sym, ap, ◌∙◌, subst, arith, length-append, append_assoc}
+use Rattle.std.proofs.Common.{◌≡◌, ℕ, ◌+◌, ◌-◌, ◌≤◌, Bool, true, false, List, [], ◌∷◌, ◌++◌, length, map, None, refl, sym, ap, ◌∙◌, subst, arith, length-append, append_assoc}
 use Rattle.std.proofs.lemmas.List.{append-nil}
 use Rattle.br_word.specs.Memory.{zeros}
 use Rattle.elf_read.specs.declared.exe.Exe.{Exe}
@@ -15,7 +15,7 @@ use Rattle.flow_graph.specs.Graph.{known_of, starts_in}
 use Rattle.flow_graph.specs.GraphOf.{starts_of, graph_of}
 use Rattle.ssa_form.specs.declared.form.BlockKey.{BlockKey}
 use Rattle.par_moves.specs.Homes.{register_homes}
-use Rattle.fall_stubs.specs.Exchange.{opening_items, closing_items}
+use Rattle.fall_stubs.specs.Exchange.{capture_items, opening_items, closing_items}
 use Rattle.code_laws.specs.Valid.{CodeValid}
 use Rattle.code_layout.specs.declared.place.TheConstants.{CODE_START}
 use Rattle.code_layout.specs.Keys.{live_of, key_of, keys_of}
@@ -74,27 +74,44 @@ no_more bytes = let z : length bytes - length bytes ≡ 0 = omega arith in ap (�
 pub same_bytes : (exe : Exe) (edges : List Edge) → (coded_of exe edges).code.bytes ≡ code_of exe edges
 same_bytes exe edges = no_more (code_of exe edges)
 
-whole : (exe : Exe) (edges : List Edge) → code_of exe edges ≡ bytes_at (address_of exe edges) CODE_START (entry_of exe edges) ++ bytes_from (address_of exe edges) (first_at (entry_of exe edges)) (fragments_of exe (keys_of exe edges))
+pub whole : (exe : Exe) (edges : List Edge) → code_of exe edges ≡ bytes_at (address_of exe edges) CODE_START (entry_of exe edges) ++ bytes_from (address_of exe edges) (first_at (entry_of exe edges)) (fragments_of exe (keys_of exe edges))
 unfolding code_of linked
 whole exe edges = refl
 
+size_jump : (is : List Item) (d : Dest) → 5 ≤ size_of_items (is ++ (item.Jump None d ∷ []))
+size_jump [] d = omega arith
+size_jump (i ∷ is) d = let q = size_jump is d in omega (arith, q)
+
+entry_size : (entry : ℕ) (b : Bool) → 5 ≤ size_of_items (entry_items entry b)
+entry_size entry true = size_jump (capture_items register_homes) (dests.Block entry)
+entry_size entry false = omega arith
+
+pub entry_some : JumpLengths → (exe : Exe) (edges : List Edge) → 5 ≤ length (code_of exe edges)
+entry_some laws exe edges =
+    let first = bytes_at (address_of exe edges) CODE_START (entry_of exe edges) in
+    let rest = bytes_from (address_of exe edges) (first_at (entry_of exe edges)) (fragments_of exe (keys_of exe edges)) in
+    let a = ap length (whole exe edges) ∙ length-append first rest in
+    let b = bytes_long laws (dest_at (address_of exe edges) CODE_START (entry_of exe edges)) (entry_of exe edges) CODE_START in
+    let c = entry_size exe.entry (has_key (keys_of exe edges) exe.entry) in
+    omega (arith, a, b, c)
+
 module _ (laws : JumpLengths) (exe : Exe) (edges : List Edge) (x : ℕ) (start : is_start_of exe edges x ≡ true) where
-  abbrev entry_bytes : List ℕ
+  abbrev pub entry_bytes : List ℕ
   entry_bytes = bytes_at (address_of exe edges) CODE_START (entry_of exe edges)
 
-  place : IsAmong (address_of exe edges) (bytes_from (address_of exe edges) (first_at (entry_of exe edges)) (fragments_of exe (keys_of exe edges))) (first_at (entry_of exe edges)) (address_of exe edges x) (start_items exe edges x)
+  pub place : IsAmong (address_of exe edges) (bytes_from (address_of exe edges) (first_at (entry_of exe edges)) (fragments_of exe (keys_of exe edges))) (first_at (entry_of exe edges)) (address_of exe edges x) (start_items exe edges x)
   place =
       let held : is_among (starts exe edges) x ≡ true = sym (ap (λ xs. is_among xs x) (same_starts exe edges)) ∙ start in
       subst (λ fs. IsAmong (address_of exe edges) (bytes_from (address_of exe edges) (first_at (entry_of exe edges)) fs) (first_at (entry_of exe edges)) (address_in (first_at (entry_of exe edges)) fs x) (start_items exe edges x)) (sym (same_fragments exe edges))
       (among laws (address_of exe edges) (start_items exe edges) (starts exe edges) (first_at (entry_of exe edges)) x held)
 
-  abbrev own : List ℕ
+  abbrev pub own : List ℕ
   own = bytes_at (address_of exe edges) (address_of exe edges x) (start_items exe edges x)
 
-  parts : code_of exe edges ≡ (entry_bytes ++ place.front) ++ (own ++ place.behind)
+  pub parts : code_of exe edges ≡ (entry_bytes ++ place.front) ++ (own ++ place.behind)
   parts = whole exe edges ∙ ap (λ bs. entry_bytes ++ bs) place.bytes ∙ sym (append_assoc entry_bytes place.front (own ++ place.behind))
 
-  begins : address_of exe edges x ≡ CODE_START + length (entry_bytes ++ place.front)
+  pub begins : address_of exe edges x ≡ CODE_START + length (entry_bytes ++ place.front)
   begins =
       let long = bytes_long laws (dest_at (address_of exe edges) CODE_START (entry_of exe edges)) (entry_of exe edges) CODE_START in
       let both = length-append entry_bytes place.front in

@@ -1,3 +1,6 @@
 pub mod Coded
 pub mod Stands
 pub mod Serves
+pub mod Laid
+pub mod Exchanged
+pub mod Law

@@ -1,15 +1,14 @@
 -- What is lifted and what becomes code of it serve each other.
-use Rattle.std.specs.Prelude.{◌≡◌, ◌≢◌, ℕ, ◌≤◌, true, false, List, length, map, IsTrue}
+use Rattle.std.specs.Prelude.{◌≡◌, ℕ, ◌≤◌, false, List, length, map, IsTrue}
 use Rattle.br_word.specs.Memory.{HoldBytes}
 use Rattle.elf_read.specs.declared.exe.Exe.{Exe}
-use Rattle.elf_read.specs.Elf.{IsGuest}
 use Rattle.elf_read.specs.Regions.{region_of}
 use Rattle.run_model.specs.Edges.{Edge}
 use Rattle.block_cut.specs.Blocks.{block_of}
 use Rattle.ssa_form.specs.Checked.{checked}
 use Rattle.ssa_form.specs.Same.{SpellsWords}
 use Rattle.lift_flow.specs.LiftedBlock.{lift_of}
-use Rattle.sim_runs.specs.Recovered.{is_island_end, is_start_of}
+use Rattle.sim_runs.specs.Recovered.{is_island_end}
 use Rattle.sim_runs.specs.Promised.{ServesAt}
 use Rattle.sim_runs.specs.WholeBlock.{IsWay}
 use Rattle.image_laws.specs.Coded.{coded_of, coding_at}

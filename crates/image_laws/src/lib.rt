@@ -1,8 +1,14 @@
 //! Laws of written files: the file of an original and edges has what the simulation of a written file asks for.
 #![tactic(auto)]
 
+mod exchanged;
+mod laid;
+mod law;
 mod serves;
 mod stands;
 
+pub use exchanged::states_exchanged;
+pub use laid::{images_hold, images_laid};
+pub use law::images_meet;
 pub use serves::{codings_serve, lifted_blocks};
 pub use stands::code_stands;

@@ -94,7 +94,7 @@ module _ (exe : Exe) (plan : Plan) (segment : Segment) (is_code : region_of segm
     ready = zero_ready;
     wider = wider_at 0x01000000;
     captured = λ k cs. exchange.enters t0 s0.regions cs k capturable refl;
-    jumps = λ k cs. let l = exchange.passes t0 (private_region (zeros 65536) ∷ s0.regions) cs k memory refl refl in record {
+    jumps = λ k cs. let l = exchange.passes t0 s0.regions cs k capturable refl in record {
       steps = l.steps;
       going = l.going;
       bound = l.bound;

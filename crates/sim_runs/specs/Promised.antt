@@ -1,7 +1,7 @@
 -- What the parts of a recovered file promise: all that the simulation assumes.
 use Rattle.std.specs.Prelude.{◌≡◌, ℕ, ◌+◌, ◌<◌, ◌≤◌, Bool, true, false, not, ◌&&◌, ◌||◌, List, [], ◌∷◌, length, Ok, ◌⊎◌}
 use Rattle.br_word.specs.Memory.{Region, HoldBytes}
-use Rattle.br_word.specs.State.{State, Running}
+use Rattle.br_word.specs.State.{State}
 use Rattle.elf_read.specs.declared.exe.Segment.{Segment}
 use Rattle.elf_read.specs.declared.exe.Exe.{Exe}
 use Rattle.elf_read.specs.declared.exe.Reach.TheVariants.{Guest}
@@ -92,9 +92,8 @@ pub record Exchanges (exe : Exe) (plan : Plan) (opening closing top : ℕ) : Typ
       → Leads (Captured plan (past plan x) outer t) closing t cs
   pub enters : (t : State) (outer : List Region) (cs : List ℕ) → plan.is_start exe.entry ≡ true
       → Capturable plan outer t → t.eip ≡ 0x01000000 → Leads (Captured plan exe.entry outer t) top t cs
-  pub passes : (t : State) (rest : List Region) (cs : List ℕ) → plan.is_start exe.entry ≡ false
-      → t.regions ≡ plan.code ∷ rest → t.stop ≡ Running → t.eip ≡ 0x01000000
-      → Leads (λ u. u ≡ record t { eip = exe.entry }) top t cs
+  pub passes : (t : State) (outer : List Region) (cs : List ℕ) → plan.is_start exe.entry ≡ false
+      → Capturable plan outer t → t.eip ≡ 0x01000000 → Leads (λ u. u ≡ record t { eip = exe.entry }) top t cs
 
 -- ---- the file
 
