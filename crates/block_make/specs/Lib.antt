@@ -5,3 +5,4 @@ pub mod FragmentItems
 pub mod FragmentCode
 pub mod Prepared
 pub mod Labels
+pub mod Laws

@@ -2,12 +2,13 @@
 ghost use Rattle.std.specs.Prelude.{◌≡◌, ◌≤◌, IsTrue, IfOk, length};
 ghost use Rattle.elf_read.specs.Elf.{IsGuest, is_exec};
 ghost use Rattle.ssa_form.specs.Checked.{checked};
-ghost use Rattle.ssa_form.specs.Same.{SpellsWords};
+ghost use Rattle.ssa_form.specs.Same.{IsWord, SpellsWords};
 ghost use Rattle.block_make.specs.Choices.{body_of, ready, sunk_of};
+ghost use Rattle.block_make.specs.Prepared.{SpellsFew};
 
 use elf_read::Exe;
 use lift_flow::lift_block;
-use ssa_form::{Block, BlockKey, Marks};
+use ssa_form::{Block, BlockKey, Exit, Marks, Val};
 use std::alloc::{AllocError, Global};
 
 /// The block of a start, an executable address, as it becomes code. An error comes for want of memory.
@@ -18,8 +19,31 @@ pub fn ready(alloc: Global, exe: &Exe, start: u32) -> Result<Block, AllocError>
     ensures whole { IfOk result (λ b. IsTrue (checked b)) }
     ensures words { IfOk result SpellsWords }
     ensures few { IfOk result (λ b. length b.lines ≤ 2048) }
+    ensures exit { IfOk result (λ b. SpellsFew b.exit) }
 {
-    lift_block(alloc, exe, start)
+    let block = lift_block(alloc, exe, start)?;
+    note_exit(block.exit);
+    Ok(block)
+}
+
+/// What a name spells out has 32 bits.
+fn note_word(value: Val)
+    ensures { IsWord value }
+{
+    match value {
+        Val::Param(_) | Val::Line(_) | Val::Num(_) => {}
+    }
+}
+
+/// What an exit spells out fits.
+fn note_exit(exit: Exit)
+    ensures { SpellsFew exit }
+{
+    match exit {
+        Exit::Cond { test, .. } => note_word(test),
+        Exit::Way(target) => note_word(target),
+        Exit::Jump(_) | Exit::Island { .. } => {}
+    }
 }
 
 /// The lines that are done before the exit: all. An error comes for want of memory.

@@ -1,10 +1,17 @@
 //! The code behind a block's lines, by its exit.
-ghost use Rattle.std.specs.Prelude.{◌≡◌, ◌≤◌, ◌++◌, IsTrue, OnOk, length};
+ghost use Rattle.std.specs.Prelude.{◌≡◌, ◌+◌, ◌≤◌, ◌++◌, IsTrue, OnOk, length};
 ghost use Rattle.elf_read.specs.Elf.{IsGuest, is_exec};
-ghost use Rattle.ssa_form.specs.Checked.{val_checked};
+ghost use Rattle.emit_ops.specs.Placed.{IsHeld};
 ghost use Rattle.par_moves.specs.Homes.{register_homes};
 ghost use Rattle.fall_stubs.specs.Exchange.{island_items};
+ghost use Rattle.br_word.specs.declared.types.Width.TheVariants.{B32};
+ghost use Rattle.ia_inst.specs.declared.inst.Inst.TheVariants.{Alu};
+ghost use Rattle.ia_inst.specs.declared.inst.Src.TheVariants as src;
+ghost use Rattle.ia_inst.specs.Canonical.{valid_of};
+ghost use Rattle.emit_ops.specs.Templates.{eax};
 ghost use Rattle.block_make.specs.declared.fragment.TheConstants.{MAX_EXITS};
+ghost use Rattle.ssa_form.specs.declared.form.Exit.TheVariants as exits;
+ghost use Rattle.lift_flow.specs.LiftedBlock.{lift_of};
 ghost use Rattle.block_make.specs.Choices.{choice_of};
 ghost use Rattle.block_make.specs.FragmentItems.{tail_items, regain_items, stub_items, part_items, cond_items, aim_items, compare_items, tails_items, way_stub_items, own_bytes, dest_of, exit_items, items_of};
 ghost use Rattle.block_make.specs.Keys.{live_at, IsKey};
@@ -14,11 +21,13 @@ use crate::fragment::JUMP_SLOT;
 use crate::lines::emit_lines;
 use crate::moves::{Live, emit_moves, source};
 use crate::prepared::Prepared;
-use elf_read::{Exe, exec_bytes};
+use block_cut::one_block;
+use elf_read::Exe;
 use emit_ops::emit_move;
 use fall_stubs::{island, restore, spill};
 use ia_encode::{Dest, Item, Piece};
 use ia_inst::{Inst, Rm, Src, Width};
+use lift_flow::instruction_at;
 use par_moves::{MoveSource, Place, PlaceMove, operand};
 use ssa_form::{BlockKey, Exit, Val};
 use std::alloc::{AllocError, Global};
@@ -97,14 +106,14 @@ fn part(
 /// The value of the block to eax.
 fn aim(p: &mut Piece, of: &Prepared, value: Val) -> Result<(), AllocError>
     requires prepared { IsPrepared of.now }
-    requires named { IsTrue (val_checked of.now.block.lines (length of.now.block.lines) value) }
+    requires named { IsHeld of.now.places.items value }
     ensures { OnOk result (p.new ≡ p.old ++ aim_items (choice_in of.now) value) }
 {
     emit_move(
         p,
         &PlaceMove {
             to: Place::Reg(0),
-            from: source(of, value),
+            from: source(of.places.as_slice(), value),
         },
     )
 }
@@ -120,7 +129,7 @@ fn either(
     next: u32,
 ) -> Result<(), AllocError>
     requires prepared { IsPrepared of.now }
-    requires named { IsTrue (val_checked of.now.block.lines (length of.now.block.lines) test) }
+    requires named { IsHeld of.now.places.items test }
     ensures { OnOk result (p.new ≡ p.old ++ cond_items (choice_in of.now) test
         (part_items (choice_in of.now) 0 next (live_at exits.now next))
         (part_items (choice_in of.now) 1 taken (live_at exits.now taken))) }
@@ -137,6 +146,19 @@ fn either(
     part(alloc, p, of, exits, 1, taken)
 }
 
+/// CMP of eax with a number.
+fn comparison(number: u32) -> Inst
+    ensures value { result ≡ Alu 7 B32 eax (src.Imm number) }
+    ensures valid { IsTrue (valid_of result) }
+{
+    Inst::Alu {
+        op: 7,
+        w: Width::B32,
+        dst: Rm::Reg(0),
+        src: Src::Imm(number),
+    }
+}
+
 /// The comparisons of an indirect exit's target with its known exits.
 fn compare(p: &mut Piece, exits: &[(u32, u16)]) -> Result<(), AllocError>
     requires { length exits.now ≤ MAX_EXITS }
@@ -144,12 +166,7 @@ fn compare(p: &mut Piece, exits: &[(u32, u16)]) -> Result<(), AllocError>
 {
     for index in 0..exits.len() {
         p.append(&[
-            Item::Inst(Inst::Alu {
-                op: 7,
-                w: Width::B32,
-                dst: Rm::Reg(0),
-                src: Src::Imm(exits[index].0),
-            }),
+            Item::Inst(comparison(exits[index].0)),
             Item::Jump {
                 cond: Some(4),
                 to: Dest::Label(index as u32 + 1),
@@ -181,7 +198,7 @@ fn tails(
 /// The side exit of an indirect exit.
 fn way_stub(alloc: Global, p: &mut Piece, of: &Prepared, target: Val) -> Result<(), AllocError>
     requires prepared { IsPrepared of.now }
-    requires named { IsTrue (val_checked of.now.block.lines (length of.now.block.lines) target) }
+    requires named { IsHeld of.now.places.items target }
     ensures { OnOk result (p.new ≡ p.old ++ way_stub_items (choice_in of.now) target) }
 {
     aim(p, of, target)?;
@@ -208,7 +225,7 @@ fn way(
 ) -> Result<(), AllocError>
     requires prepared { IsPrepared of.now }
     requires few { length exits.now ≤ MAX_EXITS }
-    requires named { IsTrue (val_checked of.now.block.lines (length of.now.block.lines) target) }
+    requires named { IsHeld of.now.places.items target }
     ensures { OnOk result (p.new ≡ p.old ++ (aim_items (choice_in of.now) target ++ (compare_items 1 exits.now
         ++ (way_stub_items (choice_in of.now) target ++ tails_items (choice_in of.now) 1 exits.now)))) }
 {
@@ -218,22 +235,23 @@ fn way(
     tails(alloc, p, of, exits)
 }
 
-/// A native instruction: the block at the start of a key is one.
+/// A native instruction: the block of the key is one, of `len` bytes.
 fn native(p: &mut Piece, exe: &Exe, key: &BlockKey, len: u8) -> Result<(), AllocError>
     requires guest { IsGuest exe.now }
-    requires code { IsTrue (is_exec key.now.start exe.now.segments) }
-    requires short { len ≤ 15 }
+    requires native { (lift_of exe.now key.now.start).exit ≡ exits.Island len }
     ensures { OnOk result (p.new ≡ p.old ++ island_items register_homes (own_bytes exe.now key.now.start len) 0
         (dest_of (key.now.start + len) (live_at key.now.exits (key.now.start + len)))) }
 {
-    let mut own = [0; 15];
-    let count = exec_bytes(exe, key.start, &mut own);
-    let behind = key.start + len as u32;
+    one_block();
+    let Some(own) = instruction_at(exe, key.start) else {
+        return Ok(());
+    };
+    let behind = key.start + own.len as u32;
     let next = match live_at(key.exits.as_slice(), behind) {
         Some(_) => Dest::Block(behind),
         None => Dest::Original(behind),
     };
-    island(p, &own[..count.min(len) as usize], next, 0)
+    island(p, &own.bytes[..own.len as usize], next, 0)
 }
 
 /// Appends the code of the exit of a key's block. An error comes for want of memory.

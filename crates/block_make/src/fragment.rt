@@ -1,17 +1,19 @@
 //! Fragments of recovered code.
-ghost use Rattle.std.specs.Prelude.{◌≡◌, ℕ, ◌+◌, ◌<◌, ◌≤◌, ◌++◌, IfOk, IsTrue, OnOk, OnErr, ◌⊎◌, length, slice_index};
+ghost use Rattle.std.specs.Prelude.{◌≡◌, ℕ, ◌+◌, ◌^◌, ◌<◌, ◌≤◌, IfOk, IsTrue, OnOk, OnErr, ◌⊎◌, length, slice_index};
 ghost use Rattle.elf_read.specs.Elf.{IsGuest, is_exec};
+ghost use Rattle.ia_encode.specs.Items.{AreValid, size_of_items};
 ghost use Rattle.block_make.specs.FragmentCode.{coded};
 ghost use Rattle.block_make.specs.FragmentItems.{items_of};
 ghost use Rattle.block_make.specs.Keys.{IsKey};
 
-use crate::assemble::{Assembled, assemble};
+use crate::assembly::{Assembled, assemble};
 use crate::exits::emit_exit;
 use crate::lines::emit_lines;
 use crate::prepared::prepare;
 use br_word::Steps;
 use elf_read::Exe;
-use ia_encode::Piece;
+use ia_decode::encoding_length;
+use ia_encode::{Piece, round_trip};
 use ssa_form::BlockKey;
 use std::alloc::{AllocError, Global};
 use std::marker::{Model, PhantomData};
@@ -84,8 +86,12 @@ fn items_of(alloc: Global, exe: &Exe, key: &BlockKey) -> Result<Piece, AllocErro
     requires guest { IsGuest exe.now }
     requires code { IsTrue (is_exec key.now.start exe.now.segments) }
     requires few { length key.now.exits ≤ MAX_EXITS }
-    ensures { IfOk result (λ p. p ≡ items_of exe.now key.now) }
+    ensures items { IfOk result (λ p. p ≡ items_of exe.now key.now) }
+    ensures valid { IfOk result AreValid }
+    ensures short { IfOk result (λ p. size_of_items p < 2 ^ 32) }
 {
+    round_trip();
+    encoding_length();
     let prepared = prepare(alloc, exe, key)?;
     let mut piece = Piece::new(alloc);
     emit_lines(&mut piece, &prepared, prepared.split.body.as_slice())?;

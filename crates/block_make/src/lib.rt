@@ -1,7 +1,7 @@
 //! The code of one block: its lines, the ways to known blocks, and the side exits to the original.
 #![tactic(auto)]
 
-mod assemble;
+mod assembly;
 mod choices;
 mod exits;
 mod fragment;
@@ -9,7 +9,7 @@ mod lines;
 mod moves;
 mod prepared;
 
-pub use assemble::{Assembled, assemble};
+pub use assembly::{Assembled, assemble};
 pub use fragment::{Fix, Fragment, JUMP_SLOT, MAX_EXITS, make};
 
 #[cfg(test)]

@@ -1,7 +1,7 @@
 //! The code of a block's lines.
-ghost use Rattle.std.specs.Prelude.{◌≡◌, ◌++◌, OnOk};
+ghost use Rattle.std.specs.Prelude.{◌≡◌, ◌++◌, OnOk, length};
 ghost use Rattle.block_make.specs.FragmentItems.{lines_items};
-ghost use Rattle.block_make.specs.Prepared.{choice_in, IsPart, IsPrepared};
+ghost use Rattle.block_make.specs.Prepared.{choice_in, IsPrepared};
 
 use crate::prepared::Prepared;
 use emit_ops::emit_line;
@@ -11,7 +11,7 @@ use std::alloc::AllocError;
 /// Appends the code of the lines of a set. An error comes for want of memory.
 pub fn emit_lines(p: &mut Piece, of: &Prepared, set: &[bool]) -> Result<(), AllocError>
     requires prepared { IsPrepared of.now }
-    requires part { IsPart of.now set.now }
+    requires size { length set.now ≡ length of.now.block.lines }
     ensures { OnOk result (p.new ≡ p.old ++ lines_items (choice_in of.now) set.now) }
 {
     let places = of.places.as_slice();

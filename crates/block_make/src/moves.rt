@@ -1,18 +1,19 @@
 //! Moves on the way out of a block.
-ghost use Rattle.std.specs.Prelude.{◌≡◌, ◌<◌, ◌++◌, IfOk, IsTrue, OnOk, length};
+ghost use Rattle.std.specs.Prelude.{◌≡◌, ◌<◌, ◌++◌, ◌&&◌, not, IfOk, OnOk};
 ghost use Rattle.ssa_form.specs.declared.form.TheConstants.{REGISTERS};
-ghost use Rattle.ssa_form.specs.Checked.{val_checked};
 ghost use Rattle.par_moves.specs.Homes.{home_of};
-ghost use Rattle.par_moves.specs.Locations.{IsFit};
+ghost use Rattle.par_moves.specs.Locations.{InRange, IsFit};
+ghost use Rattle.emit_ops.specs.Templates.{held_by};
+ghost use Rattle.emit_ops.specs.Placed.{place_at, HasPlace, IsHeld};
 ghost use Rattle.emit_ops.specs.Sequences.{keeps_itself, live_moves};
 ghost use Rattle.block_make.specs.Choices.{place_in};
-ghost use Rattle.block_make.specs.FragmentItems.{moves_items, source_in};
+ghost use Rattle.block_make.specs.FragmentItems.{moves_items};
 ghost use Rattle.block_make.specs.Prepared.{choice_in, is_live, IsPrepared};
 
 use crate::prepared::Prepared;
 use emit_ops::emit_move;
 use ia_encode::Piece;
-use par_moves::{MoveSource, PlaceMove, sequence};
+use par_moves::{MoveSource, Place, PlaceMove, sequence};
 use reg_place::home;
 use ssa_form::Val;
 use std::alloc::{AllocError, Global};
@@ -44,19 +45,35 @@ fn keeps_itself(register: u8, out: Val) -> bool
     matches!(out, Val::Param(param) if param == register)
 }
 
+/// Whether the home of a register takes its out.
+fn is_moved(live: Live, register: u8, out: Val) -> bool
+    requires { register < REGISTERS }
+    ensures { result ≡ (is_live live register && not (keeps_itself register out)) }
+{
+    is_live(live, register) && !keeps_itself(register, out)
+}
+
+/// The place of a line.
+fn place_of(places: &[Option<Place>], index: u32) -> Place
+    requires { HasPlace places.now index }
+    ensures value { result ≡ place_at places.now index }
+    ensures fits { InRange result }
+{
+    match places.get(index as usize) {
+        Some(Some(place)) => *place,
+        _ => unreachable!(),
+    }
+}
+
 /// Where a value is held.
-pub fn source(of: &Prepared, value: Val) -> MoveSource
-    requires prepared { IsPrepared of.now }
-    requires named { IsTrue (val_checked of.now.block.lines (length of.now.block.lines) value) }
-    ensures value { result ≡ source_in (choice_in of.now) value }
+pub fn source(places: &[Option<Place>], value: Val) -> MoveSource
+    requires { IsHeld places.now value }
+    ensures value { result ≡ held_by home_of (place_at places.now) value }
     ensures fits { IsFit result }
 {
     match value {
         Val::Param(register) => MoveSource::Place(home(register)),
-        Val::Line(index) => match of.places[index as usize] {
-            Some(place) => MoveSource::Place(place),
-            None => unreachable!(),
-        },
+        Val::Line(index) => MoveSource::Place(place_of(places, index)),
         Val::Num(number) => MoveSource::Num(number),
     }
 }
@@ -69,10 +86,10 @@ fn live_moves(alloc: Global, of: &Prepared, live: Live) -> Result<Vec<PlaceMove>
     let mut moves = Vec::new(alloc);
     for register in 0..14 {
         let out = of.block.outs[register as usize];
-        if is_live(live, register) && !keeps_itself(register, out) {
+        if is_moved(live, register, out) {
             moves.push(PlaceMove {
                 to: home(register),
-                from: source(of, out),
+                from: source(of.places.as_slice(), out),
             })?;
         }
     }

@@ -30,10 +30,9 @@ pub fn prepare(alloc: Global, exe: &Exe, key: &BlockKey) -> Result<Prepared, All
     ensures prepared { IfOk result IsPrepared }
 {
     let block = ready(alloc, exe, key.start)?;
-    let split = Split {
-        body: body_of(alloc, &block, key)?,
-        sunk: sunk_of(alloc, &block, key)?,
-    };
+    let body = body_of(alloc, &block, key)?;
+    let sunk = sunk_of(alloc, &block, key)?;
+    let split = Split { body, sunk };
     let places = place(alloc, &block, &split)?;
     Ok(Prepared {
         block,
