@@ -1,0 +1,4 @@
+pub mod Found
+pub mod Fills
+pub mod Kept
+pub mod Writable
