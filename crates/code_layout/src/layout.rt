@@ -85,8 +85,10 @@ impl<L> Layout<L> {
             return Err(LayoutError::TooLong);
         }
         self.spent = true;
-        append(&mut self.code, &mut self.fixes, &mut self.rows, start, fragment)?;
-        self.spent = false;
+        match append(&mut self.code, &mut self.fixes, &mut self.rows, start, fragment) {
+            Ok(()) => self.spent = false,
+            Err(_) => return Err(LayoutError::Memory),
+        }
         Ok(())
     }
 
