@@ -28,6 +28,11 @@ pub record LayoutView : Type 0 where
 abbrev pub entry_code : LayoutView → OpenCode
 entry_code v = code_of_items (entry_items v.entry v.known)
 
+-- with one fragment more
+abbrev pub with_added : LayoutView → ℕ → OpenCode → LayoutView
+with_added v start code =
+    record { entry = v.entry; known = v.known; added = v.added ++ (record { start = start; code = code } ∷ []); spent = v.spent }
+
 -- ---- how long it is
 
 abbrev pub added_length : List Added → ℕ

@@ -2,3 +2,4 @@ pub mod Keys
 pub mod Linked
 pub mod Image
 pub mod Layout
+pub mod Rows

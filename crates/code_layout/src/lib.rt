@@ -2,7 +2,20 @@
 #![tactic(auto)]
 
 mod built;
+mod emitted;
+mod error;
+mod fixing;
+mod image;
+mod keys;
+mod layout;
+mod live;
+mod parts;
 mod place;
+mod rows;
 
 pub use built::{BuildError, Built};
+pub use emitted::Emitted;
+pub use error::LayoutError;
+pub use keys::keys_of;
+pub use layout::Layout;
 pub use place::{CODE_START, MAX_CODE, PRIVATE_SIZE, PRIVATE_START};
