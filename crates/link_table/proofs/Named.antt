@@ -195,7 +195,7 @@ row_read rows columns alive values used live t k e l a =
 
 pub column_read : (rows columns : Family) (alive : List Bool) (values : List ℕ) (used live : ℕ) (t : Table) (k : ℕ) → table rows columns alive values ≡ t → IsLinked rows columns alive values used live → k < length t.columns → (k < length columns.lists) × (entries values (get_or columns.lists k []) ≡ get_or t.columns k []) × ((i : ℕ) → 0 < times i (get_or columns.lists k []) → i < length values)
 column_read rows columns alive values used live t k e l a = (
-      subst (λ (n : ℕ). k < n) (columns_shown rows columns alive values t e) a,
-      sym (get-all_entries values columns.lists k) ∙ ap (λ (u : Table). get_or u.columns k []) e,
-      (λ i p. (let t : times i (get_or columns.lists k []) ≤ times_in i columns.lists = times-get i columns.lists k in let q : times_in i columns.lists ≡ times_in i (row_lists rows) = l.paired i in let d : times_in i (row_lists rows) ≤ times_in i rows.lists = times_in-drop rows.lists i in let g : i < used = l.given i (omega (arith, p, t, q, d)) in let v : used ≤ length values = l.value_slots in omega (arith, g, v))),
-    )
+  subst (λ (n : ℕ). k < n) (columns_shown rows columns alive values t e) a,
+  sym (get-all_entries values columns.lists k) ∙ ap (λ (u : Table). get_or u.columns k []) e,
+  (λ i p. (let t : times i (get_or columns.lists k []) ≤ times_in i columns.lists = times-get i columns.lists k in let q : times_in i columns.lists ≡ times_in i (row_lists rows) = l.paired i in let d : times_in i (row_lists rows) ≤ times_in i rows.lists = times_in-drop rows.lists i in let g : i < used = l.given i (omega (arith, p, t, q, d)) in let v : used ≤ length values = l.value_slots in omega (arith, g, v))),
+)
