@@ -1,16 +1,16 @@
 -- A further list, for the free nodes or under a further name.
-use Rattle.std.proofs.Common.{◌≡◌, ◌≢◌, ℕ, zero, suc, ◌+◌, ◌<◌, ◌≤◌, ◌^◌, Bool, true, false, List, [], ◌∷◌, ◌++◌, length, length-append, get_or, drop, refl, ap, sym, ◌∙◌, subst, arith, inl, inr}
+use Rattle.std.proofs.Common.{◌≡◌, ℕ, zero, suc, ◌+◌, ◌<◌, ◌≤◌, ◌^◌, Bool, true, false, List, [], ◌∷◌, ◌++◌, length, get_or, drop, refl, ap, sym, ◌∙◌, subst, arith, inl, inr}
 use Rattle.std.proofs.lemmas.Bool.{cases_eq}
 use Rattle.std.proofs.lemmas.List.{length_push}
 use Rattle.link_table.specs.Circles.{times, times_in, size, Family, IsTidy}
-use Rattle.link_table.specs.Table.{Table, row_lists, IsLinked, IsCrossed, all_entries, entries, entries_in, count_in, valued_in}
+use Rattle.link_table.specs.Table.{Table, row_lists, IsLinked, IsCrossed, all_entries, entries, entries_in, count_in}
 use Rattle.link_table.proofs.Counts.{times_self, times_else, times-append}
 use Rattle.link_table.proofs.Kept.{times_in-push_nil, size-push_nil}
 use Rattle.link_table.proofs.Shown.{times_in-drop, size-drop, entries_in-all_entries, count_in-all_entries, length-all_entries}
 use Rattle.link_table.proofs.Same.{same_valued}
 use Rattle.link_table.proofs.Walked.{times-get}
 use Rattle.link_table.proofs.Dropped.{row_back}
-use Rattle.link_table.proofs.Linked.{alive_row, table, same_table, linked_at, not_given, roomier, roomier_shows}
+use Rattle.link_table.proofs.Linked.{alive_row, table, same_table, linked_at, not_given, roomier}
 
 times_in-drop_push : (i : ℕ) (xss : List (List ℕ)) → times_in i (drop 1 (xss ++ [] ∷ [])) ≡ times_in i (drop 1 xss)
 times_in-drop_push i [] = refl
