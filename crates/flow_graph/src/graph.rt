@@ -109,7 +109,7 @@ impl Graph {
         sets_hold();
         match Graph::of(alloc, exe, &all) {
             Ok(graph) => *self = graph,
-            Err(e) => return Err(e),
+            Err(error) => return Err(error),
         }
         Ok(())
     }

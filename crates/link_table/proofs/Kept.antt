@@ -1,9 +1,8 @@
 -- The circles keep their lists.
-use Rattle.std.proofs.Common.{◌≡◌, ◌≢◌, ℕ, zero, suc, ◌+◌, ◌<◌, ◌≤◌, Bool, true, false, cond, eqb, List, [], ◌∷◌, ◌++◌, length, get_or, set, refl, ap, sym, Option, None, Some, ◌∙◌, subst, arith, length-append, length-set, get_or-set_same, get_or-set_other, add-one, inl, inr, ⊎_elim}
-use Rattle.std.proofs.lemmas.Bool.{cases_eq, eq-eqb, ne_eqb, cases_Bool, eqb-true, eqb-false}
+use Rattle.std.proofs.Common.{◌≡◌, ◌≢◌, ℕ, zero, suc, ◌+◌, ◌<◌, ◌≤◌, cond, eqb, List, [], ◌∷◌, ◌++◌, length, get_or, set, refl, ap, sym, None, Some, ◌∙◌, subst, arith, length-set, inl, inr}
+use Rattle.std.proofs.lemmas.Bool.{cases_eq, eq-eqb, ne_eqb, cases_Bool}
 use Rattle.std.proofs.lemmas.List.{get_or_push, get_or_append_left, length_push, get_or_default}
-use Rattle.std.proofs.lemmas.Grind.{common_steps}
-use Rattle.link_table.specs.Circles.{without, all_without, put_last, times, times_in, size, Leads, AreCircles, walk, lists_of, first_of, Family, AreTwins, Keeps}
+use Rattle.link_table.specs.Circles.{all_without, put_last, times, times_in, size, Leads, AreCircles, walk, lists_of, first_of, Family, AreTwins, Keeps}
 use Rattle.link_table.proofs.Counts.{times_in-without_same, times_in-without_other, size-without, times_in-put_last, size-put_last, times_self, times_else, times-append}
 use Rattle.link_table.proofs.Turns.{next_out, prev_out, next_in, prev_in, both_out, leads_same, leads_other, twins_in, twins_out, length_out, length_in, out_at_x, out_at_other, in_at_other, times_head, twins_sym}
 

@@ -1,16 +1,16 @@
 -- A further list, for the free nodes or under a further name.
-use Rattle.std.proofs.Common.{◌≡◌, ◌≢◌, ℕ, zero, suc, ◌+◌, ◌<◌, ◌≤◌, ◌^◌, Bool, true, false, List, [], ◌∷◌, ◌++◌, length, length-append, get_or, drop, refl, ap, sym, ◌∙◌, subst, arith, inl, inr}
+use Rattle.std.proofs.Common.{◌≡◌, ℕ, zero, suc, ◌+◌, ◌<◌, ◌≤◌, ◌^◌, Bool, true, false, List, [], ◌∷◌, ◌++◌, length, get_or, drop, refl, ap, sym, ◌∙◌, subst, arith, inl, inr}
 use Rattle.std.proofs.lemmas.Bool.{cases_eq}
 use Rattle.std.proofs.lemmas.List.{length_push}
 use Rattle.link_table.specs.Circles.{times, times_in, size, Family, IsTidy}
-use Rattle.link_table.specs.Table.{Table, row_lists, IsLinked, IsCrossed, all_entries, entries, entries_in, count_in, valued_in}
+use Rattle.link_table.specs.Table.{Table, row_lists, IsLinked, IsCrossed, all_entries, entries, entries_in, count_in}
 use Rattle.link_table.proofs.Counts.{times_self, times_else, times-append}
 use Rattle.link_table.proofs.Kept.{times_in-push_nil, size-push_nil}
 use Rattle.link_table.proofs.Shown.{times_in-drop, size-drop, entries_in-all_entries, count_in-all_entries, length-all_entries}
 use Rattle.link_table.proofs.Same.{same_valued}
 use Rattle.link_table.proofs.Walked.{times-get}
 use Rattle.link_table.proofs.Dropped.{row_back}
-use Rattle.link_table.proofs.Linked.{alive_row, table, same_table, linked_at, not_given, roomier, roomier_shows}
+use Rattle.link_table.proofs.Linked.{alive_row, table, same_table, linked_at, not_given, roomier}
 
 times_in-drop_push : (i : ℕ) (xss : List (List ℕ)) → times_in i (drop 1 (xss ++ [] ∷ [])) ≡ times_in i (drop 1 xss)
 times_in-drop_push i [] = refl
@@ -195,7 +195,7 @@ row_read rows columns alive values used live t k e l a =
 
 pub column_read : (rows columns : Family) (alive : List Bool) (values : List ℕ) (used live : ℕ) (t : Table) (k : ℕ) → table rows columns alive values ≡ t → IsLinked rows columns alive values used live → k < length t.columns → (k < length columns.lists) × (entries values (get_or columns.lists k []) ≡ get_or t.columns k []) × ((i : ℕ) → 0 < times i (get_or columns.lists k []) → i < length values)
 column_read rows columns alive values used live t k e l a = (
-      subst (λ (n : ℕ). k < n) (columns_shown rows columns alive values t e) a,
-      sym (get-all_entries values columns.lists k) ∙ ap (λ (u : Table). get_or u.columns k []) e,
-      (λ i p. (let t : times i (get_or columns.lists k []) ≤ times_in i columns.lists = times-get i columns.lists k in let q : times_in i columns.lists ≡ times_in i (row_lists rows) = l.paired i in let d : times_in i (row_lists rows) ≤ times_in i rows.lists = times_in-drop rows.lists i in let g : i < used = l.given i (omega (arith, p, t, q, d)) in let v : used ≤ length values = l.value_slots in omega (arith, g, v))),
-    )
+  subst (λ (n : ℕ). k < n) (columns_shown rows columns alive values t e) a,
+  sym (get-all_entries values columns.lists k) ∙ ap (λ (u : Table). get_or u.columns k []) e,
+  (λ i p. (let t : times i (get_or columns.lists k []) ≤ times_in i columns.lists = times-get i columns.lists k in let q : times_in i columns.lists ≡ times_in i (row_lists rows) = l.paired i in let d : times_in i (row_lists rows) ≤ times_in i rows.lists = times_in-drop rows.lists i in let g : i < used = l.given i (omega (arith, p, t, q, d)) in let v : used ≤ length values = l.value_slots in omega (arith, g, v))),
+)

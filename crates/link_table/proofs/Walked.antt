@@ -1,10 +1,9 @@
 -- Walks round a circle.
-use Rattle.std.proofs.Common.{◌≡◌, ◌≢◌, ℕ, zero, suc, ◌+◌, ◌<◌, ◌≤◌, Bool, true, false, cond, eqb, List, [], ◌∷◌, ◌++◌, length, get_or, refl, ap, sym, drop, ◌∙◌, subst, arith, inl, inr}
+use Rattle.std.proofs.Common.{◌≡◌, ℕ, zero, suc, ◌+◌, ◌<◌, ◌≤◌, false, eqb, List, [], ◌∷◌, length, get_or, refl, ap, sym, drop, ◌∙◌, subst, arith, inl, inr}
 use Rattle.std.proofs.lemmas.Bool.{cases_Bool, eq-eqb}
 use Rattle.std.proofs.lemmas.List.{get_or_default}
 use Rattle.link_table.specs.Circles.{times, times_in, size, Leads, AreCircles, walk, lists_of, Family, Keeps, Ends}
-use Rattle.link_table.specs.Table.{entries}
-use Rattle.link_table.proofs.Kept.{walk_finds, list_at, length-lists_of, times_get, shown, placed, head_in, head_read}
+use Rattle.link_table.proofs.Kept.{walk_finds, list_at, times_get, shown, placed, head_read}
 
 module _ (next : List ℕ) (head : ℕ) where
   -- a walk that one more step does not lengthen is not lengthened by two

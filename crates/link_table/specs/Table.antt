@@ -1,5 +1,5 @@
 -- What a table of links shows: the entries of each row and of each column, by name.
-use Rattle.std.specs.Prelude.{◌≡◌, ℕ, zero, suc, ◌+◌, ◌<◌, ◌≤◌, ◌^◌, ◌==◌, Bool, true, false, if◌then◌else◌, List, [], ◌∷◌, ◌++◌, length, slice_index, drop, Option, None, Some}
+use Rattle.std.specs.Prelude.{◌≡◌, ℕ, zero, suc, ◌+◌, ◌<◌, ◌≤◌, ◌^◌, ◌==◌, Bool, if◌then◌else◌, List, [], ◌∷◌, ◌++◌, length, slice_index, drop, Option, None, Some}
 use Rattle.link_table.specs.Circles.{Family, times, times_in, size}
 
 -- the rows and columns by name, each a list of (node, value), and which row names are not given up

@@ -142,12 +142,7 @@ impl Links {
             return Err(LinkError::Full);
         }
         let slot = self.used;
-        make_room(
-            &mut self.rows,
-            &mut self.columns,
-            &mut self.values,
-            slot,
-        )?;
+        make_room(&mut self.rows, &mut self.columns, &mut self.values, slot)?;
         self.columns.facts();
         self.columns.push_list(slot)?;
         self.used = slot + 1;

@@ -1,5 +1,6 @@
 //! Lines of each form, and lines that are refused.
 use crate::{BadLine, Order, read_line};
+use std::test::Fail;
 
 #[test]
 fn forms(rt: HostRuntime) {
@@ -30,13 +31,20 @@ fn refused(rt: HostRuntime) {
     assert!(rt; read_line(b"remove 1234567890") == Err(BadLine));
 }
 
+/// Whether a line is refused.
+fn is_bad(line: &[u8]) -> bool {
+    read_line(line) == Err(BadLine)
+}
+
 #[test]
-fn long_names(rt: HostRuntime) {
-    let mut line = [b'x'; 4101];
-    line[0] = b'a';
-    line[1] = b'd';
-    line[2] = b'd';
-    line[3] = b' ';
-    assert!(rt; read_line(&line) == Err(BadLine));
-    assert!(rt; read_line(&line[..4100]) != Err(BadLine));
+fn long_names(rt: HostRuntime) -> Result<(), Fail> {
+    let mut line = Vec::new(rt.alloc());
+    line.extend_from_slice(b"add ")?;
+    for _ in 0..4096 {
+        line.push(b'x')?;
+    }
+    assert!(rt; !is_bad(line.as_slice()));
+    line.push(b'x')?;
+    assert!(rt; is_bad(line.as_slice()));
+    Ok(())
 }

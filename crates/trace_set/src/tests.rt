@@ -8,7 +8,10 @@ use trace_file::Edges;
 fn comes_and_goes(rt: HostRuntime) -> Result<(), Fail> {
     let alloc = rt.alloc();
     let mut set = TraceSet::new(alloc);
-    assert_eq!(rt; set.add(&Edges::of_list(vec![in alloc; (0, 7), (5, 1)]?))?, 1);
+    assert_eq!(rt;
+        set.add(&Edges::of_list(vec![in alloc; (0, 7), (5, 1)]?))?,
+        1
+    );
     assert_eq!(rt; set.add(&Edges::of_list(vec![in alloc; (0, 7)]?))?, 2);
     assert_eq!(rt; set.count(0, 7), 2);
     assert_eq!(rt; set.count(5, 1), 1);

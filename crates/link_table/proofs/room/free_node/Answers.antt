@@ -1,8 +1,7 @@
-use Rattle.std.proofs.Common.{◌≡◌, ℕ, ◌+◌, ◌<◌, ◌≤◌, length, sym, subst, ap, refl, ◌∙◌, arith}
-use Rattle.link_table.specs.Circles.{times, times_in, size, put_last, all_without, Family}
-use Rattle.link_table.specs.Table.{Table, IsLinked, row_lists, all_others}
-use Rattle.link_table.proofs.Shown.{first_free, free_apart, size-free_none}
-use Rattle.link_table.proofs.Linked.{freed_node, freed_linked}
+use Rattle.std.proofs.Common.{◌+◌, ◌≤◌, sym, arith}
+use Rattle.link_table.specs.Circles.{times, times_in}
+use Rattle.link_table.proofs.Shown.{first_free, free_apart}
+use Rattle.link_table.proofs.Linked.{freed_node}
 use Rattle.link_table.proofs.room.free_node.Goals as goal
 
 pub returns-in-Some-clause-node : goal.returns-in-Some-clause-node

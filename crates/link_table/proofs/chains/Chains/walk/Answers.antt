@@ -1,4 +1,4 @@
-use Rattle.std.proofs.Common.{◌≡◌, ℕ, ◌+◌, ◌<◌, ◌≤◌, ◌^◌, length, sym, subst, ap, refl, ◌∙◌, arith, get_or, true, false, List, [], ◌∷◌, ◌++◌, eqb, rules}
+use Rattle.std.proofs.Common.{◌<◌, length, ◌∙◌, arith}
 use Rattle.std.proofs.lemmas.Grind.{common_steps}
 use Rattle.link_table.proofs.Kept.{head_read, placed}
 use Rattle.link_table.proofs.Walked.{walk_read}

@@ -1,4 +1,3 @@
-use Rattle.std.proofs.Common.{◌≡◌, ℕ, ◌+◌, ◌<◌, ◌≤◌, ◌^◌, length, sym, subst, ap, refl, ◌∙◌, arith, get_or, true, false, List, [], ◌∷◌, ◌++◌, eqb, rules}
 use Rattle.link_table.proofs.Named.{crossed}
 use Rattle.link_table.proofs.links.Links.facts.Goals as goal
 

@@ -1,8 +1,8 @@
-use Rattle.std.proofs.Common.{◌≡◌, ℕ, ◌+◌, ◌<◌, ◌≤◌, ◌^◌, length, sym, subst, ap, refl, ◌∙◌, arith, get_or, true, false, List, [], ◌∷◌, ◌++◌, eqb, rules}
+use Rattle.std.proofs.Common.{◌≡◌, length, sym, ap, refl, ◌∙◌, arith}
 use Rattle.std.proofs.lemmas.Grind.{common_steps}
 use Rattle.link_table.specs.Circles.{Family}
-use Rattle.link_table.specs.Table.{Table, row_lists}
-use Rattle.link_table.proofs.Linked.{table, roomier_shows}
+use Rattle.link_table.specs.Table.{row_lists}
+use Rattle.link_table.proofs.Linked.{roomier_shows}
 use Rattle.link_table.proofs.Named.{columns_shown, room_for_column, column_shows, column_named}
 use Rattle.link_table.proofs.links.Links.fresh_column.Goals as goal
 

@@ -1,6 +1,5 @@
-use Rattle.std.proofs.Common.{◌≡◌, ℕ, ◌+◌, ◌<◌, ◌≤◌, ◌^◌, length, sym, subst, ap, refl, ◌∙◌, arith, get_or, true, false, List, [], ◌∷◌, ◌++◌, eqb, rules}
+use Rattle.std.proofs.Common.{◌≡◌, ◌<◌, ◌^◌, length, sym, ap, refl, ◌∙◌, arith, List, rules}
 use Rattle.std.proofs.lemmas.Grind.{common_steps}
-use Rattle.link_table.specs.Table.{Table, row_lists}
 use Rattle.link_table.proofs.Linked.{table, roomier_shows}
 use Rattle.link_table.proofs.Named.{rows_shown, room_for_row, row_shows}
 use Rattle.link_table.proofs.links.Links.fresh_row.Goals as goal

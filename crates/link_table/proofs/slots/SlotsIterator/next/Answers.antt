@@ -1,4 +1,3 @@
-use Rattle.std.proofs.Common.{◌≡◌, ℕ, ◌+◌, ◌<◌, ◌≤◌, ◌^◌, length, sym, subst, ap, refl, ◌∙◌, arith, get_or, true, false, List, [], ◌∷◌, ◌++◌, eqb, rules}
 use Rattle.std.proofs.lemmas.Bool.{ne_eqb}
 use Rattle.link_table.proofs.Walked.{walk_goes}
 use Rattle.link_table.proofs.slots.SlotsIterator.next.Goals as goal

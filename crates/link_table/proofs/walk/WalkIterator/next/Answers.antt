@@ -1,4 +1,4 @@
-use Rattle.std.proofs.Common.{◌≡◌, ℕ, ◌+◌, ◌<◌, ◌≤◌, ◌^◌, length, sym, subst, ap, refl, ◌∙◌, arith, get_or, true, false, List, [], ◌∷◌, ◌++◌, eqb, rules}
+use Rattle.std.proofs.Common.{ℕ, ◌<◌, sym, subst, arith, List}
 use Rattle.link_table.specs.Circles.{times}
 use Rattle.link_table.proofs.Walked.{first_times}
 use Rattle.link_table.proofs.walk.WalkIterator.next.Goals as goal

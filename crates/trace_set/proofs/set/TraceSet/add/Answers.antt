@@ -23,8 +23,8 @@ returns-in_err-put c = let n : length c.args.self.now.traces ≡ length c.self.i
 
 pub returns : goal.returns
 returns c = let n : length c.args.self.now.traces ≡ length c.self.inside.sets.items = traces_shown c.self.inside.numbers.items c.self.inside.sets.items c.self.inside.pairs c.self.inside.next c.args.self.now c.self.view_is c.self.invariant in let q : c.len.result ≡ length c.self.inside.sets.items = search (rules, c.len.ensures) in let inv = c.self.invariant in let fc = inv.counted in let p : pairs (sets_of c.args.self.now.traces) ≡ c.self.inside.pairs = pairs_shown c.self.inside.numbers.items c.self.inside.sets.items c.self.inside.pairs c.self.inside.next c.args.self.now c.self.view_is c.self.invariant in let sm = inv.small in let lv = c.len-count.ensures.value in let nx : c.self.inside.next ≡ c.args.self.now.next = next_shown c.self.inside.numbers.items c.self.inside.sets.items c.self.inside.next c.args.self.now c.self.view_is in (
-      not_refused c.args.self.now c.args.edges.now (omega (arith, n, q, c.if-len.false)) (omega (arith, p, lv, sm, c.if-count-self.false)) (omega (arith, nx, c.if-self-gt-ADDITION_LIMIT.false)),
-      (omega (arith, nx)),
-      same_traces (ap (λ (a : List ℕ). numbered a c.put.new.sets.items) c.in_ok-put.ensures.numbers ∙ ap (λ (b : List (List Edge)). numbered (c.self.inside.numbers.items ++ c.self.inside.next ∷ []) b) c.in_ok-put.ensures.sets ∙ numbered_push c.self.inside.numbers.items c.self.inside.sets.items c.self.inside.next c.args.edges.now inv.same) refl
+  not_refused c.args.self.now c.args.edges.now (omega (arith, n, q, c.if-len.false)) (omega (arith, p, lv, sm, c.if-count-self.false)) (omega (arith, nx, c.if-self-gt-ADDITION_LIMIT.false)),
+  (omega (arith, nx)),
+  same_traces (ap (λ (a : List ℕ). numbered a c.put.new.sets.items) c.in_ok-put.ensures.numbers ∙ ap (λ (b : List (List Edge)). numbered (c.self.inside.numbers.items ++ c.self.inside.next ∷ []) b) c.in_ok-put.ensures.sets ∙ numbered_push c.self.inside.numbers.items c.self.inside.sets.items c.self.inside.next c.args.edges.now inv.same) refl
       ∙ ap (λ (s : Traces). with_trace s c.args.edges.now) c.self.view_is,
-    )
+)

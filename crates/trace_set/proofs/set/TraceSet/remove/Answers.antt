@@ -11,7 +11,7 @@ returns-in-None-clause-traces g c = (ap (λ (t : Traces). is_live c.args.number 
 
 pub returns-in-Some-clause-traces : goal.returns-in-Some-clause-traces
 returns-in-Some-clause-traces g c = (
-      ap (λ (t : Traces). is_live c.args.number t.traces) (sym c.self.view_is) ∙ is_there c.self.inside.numbers.items c.self.inside.sets.items c.in-Some.at c.args.number (subst (λ (v : List ℕ). IsFirst c.in-Some.at c.args.number v) c.as_slice.ensures.value c.in-Some.ensures.1) c.self.invariant.same,
-      same_traces (ap (λ (a : List ℕ). numbered a c.remove-set.new.self.items) c.remove.ensures.items ∙ ap (λ (b : List (List Edge)). numbered (remove c.self.inside.numbers.items c.in-Some.at) b) c.remove-set.ensures.items ∙ removed c.self.inside.numbers.items c.self.inside.sets.items c.in-Some.at c.args.number (subst (λ (v : List ℕ). IsFirst c.in-Some.at c.args.number v) c.as_slice.ensures.value c.in-Some.ensures.1) c.self.invariant.same ∙ ap (λ (t : Traces). without_number c.args.number t.traces) c.self.view_is)
+  ap (λ (t : Traces). is_live c.args.number t.traces) (sym c.self.view_is) ∙ is_there c.self.inside.numbers.items c.self.inside.sets.items c.in-Some.at c.args.number (subst (λ (v : List ℕ). IsFirst c.in-Some.at c.args.number v) c.as_slice.ensures.value c.in-Some.ensures.1) c.self.invariant.same,
+  same_traces (ap (λ (a : List ℕ). numbered a c.remove-set.new.self.items) c.remove.ensures.items ∙ ap (λ (b : List (List Edge)). numbered (remove c.self.inside.numbers.items c.in-Some.at) b) c.remove-set.ensures.items ∙ removed c.self.inside.numbers.items c.self.inside.sets.items c.in-Some.at c.args.number (subst (λ (v : List ℕ). IsFirst c.in-Some.at c.args.number v) c.as_slice.ensures.value c.in-Some.ensures.1) c.self.invariant.same ∙ ap (λ (t : Traces). without_number c.args.number t.traces) c.self.view_is)
       (next_shown c.self.inside.numbers.items c.self.inside.sets.items c.self.inside.next c.args.self.now c.self.view_is),
-    )
+)
