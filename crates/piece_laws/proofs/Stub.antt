@@ -107,7 +107,7 @@ module _ (c : Coded) (below : Below c.code) (homes : (v : ℕ) → c.home v ≡ 
       seen = w.besides.seen ∙ m.besides.seen ∙ h.seen;
       brk_start = w.besides.brk_start ∙ m.besides.brk_start ∙ h.brk_start;
       brk = w.besides.brk ∙ m.besides.brk ∙ h.brk;
-      spared = w.slots JUMP_SLOT ∙ m.others (Slot JUMP_SLOT) (slot_kept JUMP_SLOT) (λ v l. not_jump v l) refl ∙ h.kept (Slot JUMP_SLOT) (omega arith) (slot_kept JUMP_SLOT) (λ j l. (suits.clear j l).of_jumps);
+      spared = w.slots JUMP_SLOT ∙ m.others (Slot JUMP_SLOT) (slot_kept JUMP_SLOT) (λ v l. not_jump v l) refl ∙ h.kept (Slot JUMP_SLOT) (omega arith) (slot_kept JUMP_SLOT) (λ j l. (suits.clear j l));
     }
       where
         not_jump : (v : ℕ) → v < 14 → same_place (home_of v) (Slot JUMP_SLOT) ≡ false
