@@ -1,13 +1,12 @@
 -- The regions of a guest lie apart.
-use Rattle.std.proofs.Common.{◌≡◌, ◌⊎◌, inl, inr, ℕ, zero, suc, ◌+◌, ◌-◌, ◌*◌, ◌/◌, ◌≤◌, ◌<◌, ◌^◌, Bool, true, false, List, [], ◌∷◌, ◌++◌, length, take, get_or, set, map, refl, sym, ◌∙◌, ap, subst, arith, length-append}
+use Rattle.std.proofs.Common.{◌≡◌, inl, inr, ℕ, zero, suc, ◌+◌, ◌-◌, ◌*◌, ◌/◌, ◌≤◌, ◌<◌, true, List, [], ◌∷◌, ◌++◌, length, take, get_or, set, map, refl, sym, ◌∙◌, ap, subst, arith, length-append}
 use Rattle.std.specs.Prelude.{nat_eq, if◌then◌else◌}
-use Rattle.std.proofs.lemmas.Bool.Decides.{nat_tests}
 use Rattle.br_word.specs.Memory.{Region, zeros}
 use Rattle.elf_read.specs.declared.exe.Segment.{Segment}
 use Rattle.elf_read.specs.declared.exe.Exe.{Exe}
 use Rattle.elf_read.specs.Elf.{AreSegments, Ascend, end_of_last, IsGuest}
 use Rattle.elf_read.specs.Regions.{region_of, stack_with, stack_region, heap_region, opening_regions}
-use Rattle.guest_mem.specs.Layout.{IsHeapLast, HasHeap, Range, AreApart, IsApartFrom, LieApart, range, extent, reach, AreWithin, HaveRoom}
+use Rattle.guest_mem.specs.Layout.{IsHeapLast, Range, IsApartFrom, LieApart, range, extent, reach, AreWithin, HaveRoom}
 use Rattle.guest_mem.proofs.Numbers.{length-zeros, length-cut}
 use Rattle.guest_mem.proofs.Heaps.{not_equal, equal, below_end, end_of_tail, end_high}
 

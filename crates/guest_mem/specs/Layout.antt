@@ -47,7 +47,8 @@ LieApart (p ∷ ps) = (p.0 + p.1 ≤ 2 ^ 32) × IsApartFrom p ps × LieApart ps
 abbrev pub range : Region → Range
 range r = (r.start, length r.bytes)
 
--- how many bytes a region may come to have: the heap, which starts at this address, as many as the break may rise, another those that it has
+-- how many bytes a region may come to have: the heap, which starts at this address, as many as the break may rise, another those
+-- that it has
 abbrev pub extent : ℕ → Region → ℕ
 extent start r = if nat_eq r.start start then HEAP_LIMIT else length r.bytes
 

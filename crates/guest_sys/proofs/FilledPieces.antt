@@ -1,18 +1,17 @@
 -- Pieces of memory that are filled from a source.
-use Rattle.std.proofs.Common.{◌≡◌, ℕ, ◌+◌, ◌-◌, ◌<◌, ◌≤◌, Bool, true, false, nat_lt, List, [], ◌∷◌, ◌++◌, length, take, drop, map, Option, Some, None, option_map, is_some, IfSome, Ok, Err, refl, sym, ◌∙◌, ap, subst, arith, inl, append-nil, length-append, length-take}
-use Rattle.std.proofs.lemmas.List.{take_all, take_at, length-take-le}
+use Rattle.std.proofs.Common.{◌≡◌, ℕ, ◌+◌, ◌<◌, ◌≤◌, true, nat_lt, List, [], ◌∷◌, ◌++◌, length, take, drop, map, Option, Some, None, option_map, is_some, IfSome, Ok, Err, refl, sym, ◌∙◌, ap, subst, arith, inl, append-nil, length-append, length-take}
+use Rattle.std.proofs.lemmas.List.{take_all, take_at}
 use Rattle.br_word.specs.Memory.{Region, Writes, bytes_at}
 use Rattle.br_outside.specs.Outside.{StreamView, Took}
 use Rattle.br_outside.specs.declared.errors.Failed.{Failed}
 use Rattle.guest_mem.specs.View.{MemoryView}
 use Rattle.guest_mem.specs.Layout.{LieApart, range}
-use Rattle.guest_mem.specs.Pieces.{piece_size, put_pieces, with_piece}
+use Rattle.guest_mem.specs.Pieces.{piece_size, with_piece}
 use Rattle.guest_sys.specs.declared.answers.SysError.{SysError}
 use Rattle.guest_sys.specs.declared.answers.SysError.TheVariants.{Input, Out, Report, Memory}
-use Rattle.guest_sys.specs.Parts.{TakesPiece, AddsPiece, Takes, HasFilled, FillsPiece, Fills}
+use Rattle.guest_sys.specs.Parts.{TakesPiece, AddsPiece, HasFilled, FillsPiece, Fills}
 use Rattle.guest_sys.proofs.TakenBytes.{HasTaken, fails_then, told_or, tells_or, same_left, piece_added, takes_end, takes_all}
 use Rattle.guest_sys.proofs.Pieces.{some-of, rest-of, piece-written, filled-more}
-use Rattle.ia_inst.specs.System.{filled}
 
 none-not-some : (o : Option (List ℕ)) (size : ℕ) (x : List ℕ) → option_map (take size) o ≡ Some x → is_some o ≡ true
 none-not-some None size x e = cc

@@ -1,5 +1,5 @@
 -- Pieces of a buffer that are given to a sink.
-use Rattle.std.proofs.Common.{◌≡◌, ℕ, ◌+◌, ◌-◌, ◌<◌, ◌≤◌, min, true, List, [], ◌++◌, length, take, drop, Option, Some, None, option_map, Ok, Err, refl, sym, ◌∙◌, ap, subst, arith, append_assoc, length-take, length-drop, take-add}
+use Rattle.std.proofs.Common.{◌≡◌, ℕ, ◌+◌, ◌<◌, ◌≤◌, min, List, [], ◌++◌, length, take, drop, Option, Some, None, option_map, Ok, Err, refl, sym, ◌∙◌, ap, subst, arith, append_assoc, length-take, take-add}
 use Rattle.std.proofs.lemmas.List.{take_min, take-take}
 use Rattle.br_outside.specs.Outside.{StreamView, Gave}
 use Rattle.br_outside.specs.Streams.{WasGiven, Gains}

@@ -1,5 +1,5 @@
 -- Bytes of a buffer, and what is written to it, piece after piece: the regions lie apart, so each piece lies in the region of the whole.
-use Rattle.std.proofs.Common.{◌≡◌, ℕ, zero, suc, ◌+◌, ◌-◌, ◌%◌, ◌≤◌, ◌<◌, ◌^◌, min, Bool, true, false, ◌&&◌, nat_eq, nat_le, List, [], ◌∷◌, ◌++◌, length, take, drop, map, Option, Some, None, option_map, is_some, IfSome, ◌⊎◌, inl, inr, refl, sym, ◌∙◌, ap, ap₂, subst, arith, drop-drop, take_all, append-nil, length-append, length-take, length-drop}
+use Rattle.std.proofs.Common.{◌≡◌, ℕ, zero, suc, ◌+◌, ◌-◌, ◌≤◌, ◌<◌, ◌^◌, Bool, true, false, ◌&&◌, nat_le, List, [], ◌∷◌, ◌++◌, length, take, drop, map, Option, Some, None, option_map, is_some, ◌⊎◌, inl, inr, refl, sym, ◌∙◌, ap, arith, drop-drop, take_all, append-nil, length-append, length-take, length-drop}
 use Rattle.std.specs.Prelude.{if◌then◌else◌}
 use Rattle.std.proofs.lemmas.List.{take-append-drop}
 use Rattle.std.proofs.lemmas.Bool.Decides.{nat_tests}
@@ -7,7 +7,7 @@ use Rattle.br_word.specs.Memory.{Region, Use, Writes, allows, covers, bytes_at, 
 use Rattle.ia_inst.specs.System.{filled}
 use Rattle.guest_mem.specs.View.{MemoryView}
 use Rattle.guest_mem.specs.Layout.{is_usable, Range, AreApart, IsApartFrom, LieApart, range}
-use Rattle.guest_mem.specs.Pieces.{piece_size, page_rest, put_piece, put_pieces, with_piece}
+use Rattle.guest_mem.specs.Pieces.{piece_size, page_rest, put_piece, put_pieces}
 use Rattle.guest_mem.proofs.Lists.{put_over-zero, put_over-twice}
 use Rattle.guest_mem.proofs.Numbers.{length-put_over}
 use Rattle.guest_sys.specs.Parts.{HasFilled}

@@ -11,9 +11,9 @@ use Rattle.guest_sys.specs.declared.answers.Called.TheVariants.{Fault}
 use Rattle.guest_sys.specs.declared.answers.SysError.TheVariants.{Out, Report, Memory}
 use Rattle.br_outside.specs.declared.errors.SinkError.TheVariants as sink_errors
 use Rattle.guest_sys.specs.Machine.{machine}
-use Rattle.guest_sys.specs.Calls.{after_call, GainsFront, Calls}
+use Rattle.guest_sys.specs.Calls.{after_call, Calls}
 use Rattle.guest_sys.specs.Parts.{WritesBuffer}
-use Rattle.guest_sys.proofs.DoneCalls.{begin, had, told_had, leaves_same, gains_none, front_none, as_before, calls_by, quiet, answers_as}
+use Rattle.guest_sys.proofs.DoneCalls.{begin, had, told_had, leaves_same, gains_none, front_none, calls_by, quiet, answers_as}
 
 -- the states after a write of some bytes
 abbrev wrote_out : Cpu → MemoryView → List ℕ → List ℕ → State

@@ -207,25 +207,34 @@ fn moves_the_break_by_pages(rt: HostRuntime) -> Result<(), Fail> {
     Ok(())
 }
 
+/// How many bytes each page of a region has.
+fn page_sizes(alloc: Global, memory: &Memory, place: usize) -> Result<Vec<usize>, Fail> {
+    match memory.areas.get(place) {
+        None => Err("no region".into()),
+        Some(area) => Ok(area.page_sizes(alloc)?),
+    }
+}
+
 #[test]
 fn pages_are_apart(rt: HostRuntime) -> Result<(), Fail> {
     let mut memory = Memory::of(rt.alloc(), &short_guest(rt.alloc())?, &[])?;
     assert_eq!(rt; memory.set_break(0x0804_B000)?, 0x0804_B000);
-    for (area, pages) in [(0, [121].as_slice()), (2, [4096, 4096].as_slice())] {
-        assert_eq!(rt;
-            memory.areas[area].page_sizes(rt.alloc())?.as_slice(),
-            pages,
-            "area {area}"
-        );
-    }
+    assert_eq!(rt;
+        page_sizes(rt.alloc(), &memory, 0)?.as_slice(),
+        [121].as_slice()
+    );
+    assert_eq!(rt;
+        page_sizes(rt.alloc(), &memory, 2)?.as_slice(),
+        [4096, 4096].as_slice()
+    );
     assert_eq!(rt; memory.set_break(0x0804_9801)?, 0x0804_9801);
     assert_eq!(rt;
-        memory.areas[2].page_sizes(rt.alloc())?.as_slice(),
+        page_sizes(rt.alloc(), &memory, 2)?.as_slice(),
         [2049].as_slice()
     );
     assert_eq!(rt; memory.set_break(0x0804_A801)?, 0x0804_A801);
     assert_eq!(rt;
-        memory.areas[2].page_sizes(rt.alloc())?.as_slice(),
+        page_sizes(rt.alloc(), &memory, 2)?.as_slice(),
         [4096, 2049].as_slice()
     );
     Ok(())
@@ -235,7 +244,7 @@ fn pages_are_apart(rt: HostRuntime) -> Result<(), Fail> {
 fn begins_before_a_border(rt: HostRuntime) -> Result<(), Fail> {
     let memory = Memory::of(rt.alloc(), &border_guest(rt.alloc())?, &[])?;
     assert_eq!(rt;
-        memory.areas[0].page_sizes(rt.alloc())?.as_slice(),
+        page_sizes(rt.alloc(), &memory, 0)?.as_slice(),
         [1, 4096, 3].as_slice()
     );
     let mut bytes = [7; 15];
@@ -245,7 +254,9 @@ fn begins_before_a_border(rt: HostRuntime) -> Result<(), Fail> {
         [0x81, 0xC0, 1, 2, 3, 4, 0xC3, 0, 0, 0, 0, 0, 0, 0, 0]
     );
     assert_eq!(rt; memory.load(0x0804_8FFF, Width::B32), Some(0x0201_C081));
+    assert!(rt; memory.can_read(0x0804_8FFF, 3));
     assert_eq!(rt; memory.piece(0x0804_8FFF, 3), [0x81].as_slice());
+    assert!(rt; memory.can_read(0x0804_9000, 2));
     assert_eq!(rt; memory.piece(0x0804_9000, 2), [0xC0, 1].as_slice());
     assert_eq!(rt; memory.fetch(0x0804_A001, &mut bytes), 2);
     assert_eq!(rt; memory.fetch(0x0804_A003, &mut bytes), 0);
@@ -256,10 +267,12 @@ fn begins_before_a_border(rt: HostRuntime) -> Result<(), Fail> {
 fn shows_zeros_after_a_fall(rt: HostRuntime) -> Result<(), Fail> {
     let mut memory = Memory::of(rt.alloc(), &guest(rt.alloc())?, &[])?;
     assert_eq!(rt; memory.set_break(0x0804_C000)?, 0x0804_C000);
+    assert!(rt; memory.can_write(0x0804_AFFD, 6));
     memory.copy_in(0x0804_AFFD, &[1, 2, 3, 4, 5, 6]);
     assert_eq!(rt; memory.set_break(0x0804_B000)?, 0x0804_B000);
     assert_eq!(rt; memory.set_break(0x0804_C000)?, 0x0804_C000);
     let mut bytes = [7; 6];
+    assert!(rt; memory.can_read(0x0804_AFFD, 6));
     memory.copy_out(0x0804_AFFD, &mut bytes);
     assert_eq!(rt; bytes, [1, 2, 3, 0, 0, 0]);
     Ok(())

@@ -2,7 +2,7 @@ use Rattle.std.proofs.Common.{Err, ap, refl, sym, ◌∙◌, ◌≡◌, Some, No
 use Rattle.std.proofs.lemmas.Result.{err_from_is_err_and}
 use Rattle.ia_inst.specs.System.{filled}
 use Rattle.guest_sys.proofs.PutBytes.{put_false, put_true}
-use Rattle.guest_sys.proofs.DoneCalls.{answers_as, counts_as, bad_read, reads, read_faults, read_failed, faults_as, fill_reads, fill_fails}
+use Rattle.guest_sys.proofs.DoneCalls.{answers_as, counts_as, bad_read, reads, read_faults, read_failed, faults_as, fill_reads}
 use Rattle.guest_sys.proofs.calls.read.Goals as goal
 
 pub returns-then-cpu-ne0 : goal.returns-then-cpu-ne0
