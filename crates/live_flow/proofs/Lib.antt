@@ -6,3 +6,4 @@ pub mod Places
 pub mod Among
 pub mod Linking
 pub mod Growth
+pub mod Examples

@@ -1,5 +1,5 @@
 -- Sets that grow, with a queue of the rows whose set is still to be handed on.
-use Rattle.std.specs.Prelude.{◌≡◌, ℕ, ◌+◌, ◌*◌, ◌<◌, ◌≤◌, ◌⊎◌, Bool, true, if◌then◌else◌, ◌==◌, List, [], ◌∷◌, ◌++◌, length, get_or, slice_set, bit_or, bit_and, sum}
+use Rattle.std.specs.Prelude.{◌≡◌, ℕ, ◌+◌, ◌*◌, ◌<◌, ◌≤◌, ◌⊎◌, true, List, length, get_or, sum}
 use Rattle.pass_dead.specs.Names.{has}
 use Rattle.live_flow.specs.declared.row.LiveRow.{LiveRow}
 use Rattle.live_flow.specs.Live.{row_at, hands, ways, needed_at, is_live, IsAmong}
@@ -8,7 +8,12 @@ use Rattle.live_flow.specs.Live.{row_at, hands, ways, needed_at, is_live, IsAmon
 abbrev pub In : List ℕ → ℕ → ℕ → Type 0
 In sets k v = has (get_or sets k 0) v ≡ true
 
--- the rows at these places have taken what they hand on to a set; those that grew are in the queue, and it has no more new ones than sets grew
+-- each set has what its row reads, or hands on to the original program
+abbrev pub AreNeeded : List LiveRow → List ℕ → Type 0
+AreNeeded rows sets = (k v : ℕ) → k < length rows → has (get_or sets k 0) v ≡ needed_at (row_at rows k) v
+
+-- The rows at these places have taken over what they hand on to a set. Those that grew are in the queue, and it has no more new ones
+-- than sets grew.
 pub record Grows (rows : List LiveRow) (set : ℕ) (done : List ℕ) (old new : List ℕ) (waits queue : List ℕ) : Type 0 where
   pub each : length new ≡ length old
   pub keeps : (k v : ℕ) → In old k v → In new k v
@@ -25,4 +30,5 @@ pub record IsUnder (rows : List LiveRow) (sets queue : List ℕ) : Type 0 where
   pub within : (k : ℕ) → IsAmong queue k → k < length rows
   pub sound : (k v : ℕ) → In sets k v → is_live rows k v ≡ true
   pub needed : (k v : ℕ) → k < length rows → needed_at (row_at rows k) v ≡ true → In sets k v
-  pub handed : (p j v : ℕ) → p < length rows → IsAmong (ways rows p) j → hands rows p v ≡ true → In sets j v → IsAmong queue j ⊎ In sets p v
+  pub handed : (p j v : ℕ) → p < length rows → IsAmong (ways rows p) j → hands rows p v ≡ true → In sets j v →
+    IsAmong queue j ⊎ In sets p v

@@ -27,7 +27,9 @@ NumbersAreSets = (rows : List LiveRow) (i v : ℕ) → i < length rows → v < 1
 
 -- closed sets feed the block of a row
 abbrev pub LiveFeeds : Type 0
-LiveFeeds = (rows : List LiveRow) (sets : ℕ → ℕ → Bool) (b : Block) (i : ℕ) (known : List ℕ) → checked b ≡ true → AreLive rows sets → row_at rows i ≡ row_of b known → Feeds (sets i) (λ v. any_live sets v (ways rows i)) (has_fallback b.exit known) b
+LiveFeeds = (rows : List LiveRow) (sets : ℕ → ℕ → Bool) (b : Block) (i : ℕ) (known : List ℕ) →
+    checked b ≡ true → AreLive rows sets → row_at rows i ≡ row_of b known →
+    Feeds (sets i) (λ v. any_live sets v (ways rows i)) (has_fallback b.exit known) b
 
 -- so its split serves
 abbrev pub FragmentSplits : Type 0

@@ -3,3 +3,4 @@ pub mod Rows
 pub mod Laws
 pub mod Links
 pub mod Growing
+pub mod Examples

@@ -3,8 +3,8 @@ ghost use Rattle.live_flow.specs.Laws.{LiveIsWalked, WalksAreLive, EachIsClosed,
 
 use stub_sink::split_serves;
 
-/// A register is live at a row exactly where a walk of known exits, through blocks that hand it on, leads to a block that reads it or hands
-/// it on to the original program; at most as many exits as there are rows are enough for that. Live sets are closed: what is read is live,
+/// A register is live at a row exactly where a walk of known exits, through blocks that hand it on, leads to a block that reads it or
+/// hands it on to the original program; at most as many exits as there are rows are enough for that. Live sets are closed: what is read is live,
 /// and what is handed on to the original program or to where it is live.
 pub fn live_is_walked()
     ensures walked { LiveIsWalked }

@@ -1,5 +1,5 @@
-//! Live registers: which virtual registers a block must find in their homes. specs/Rows has the row of a block, specs/Live the live sets of
-//! rows, and specs/Laws what they are worth.
+//! Live registers: which virtual registers a block must find in their homes. specs/Rows has the row of a block, specs/Live the live
+//! sets of rows, and specs/Laws what they are worth.
 #![tactic(auto)]
 
 mod law;

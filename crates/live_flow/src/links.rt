@@ -1,7 +1,7 @@
 //! Which rows lead to which.
-ghost use Rattle.std.specs.Prelude.{◌≡◌, ℕ, ◌<◌, ◌≤◌, IfOk, OnOk, [], ◌∷◌, ◌++◌, length, get_or, vec_len, slice_set};
-ghost use Rattle.live_flow.specs.Live.{row_at, place_of, ways, StartsAscend, NextAreStarts, IsAmong};
-ghost use Rattle.live_flow.specs.Links.{HasLinks, AddsLinks, AreLinks};
+ghost use Rattle.std.specs.Prelude.{◌≡◌, ℕ, ◌<◌, ◌≤◌, [], ◌∷◌, ◌++◌, IfOk, OnOk, length, get_or, vec_len, slice_set};
+ghost use Rattle.live_flow.specs.Live.{place_of, ways, StartsAscend, NextAreStarts};
+ghost use Rattle.live_flow.specs.Links.{AddsLinks, AreLinks};
 
 use crate::row::LiveRow;
 use std::alloc::{AllocError, Global};

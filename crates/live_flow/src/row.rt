@@ -179,8 +179,8 @@ fn uses_of(b: &Block) -> u16
     }
 }
 
-/// The row of a block, where these are its known exits: it uses the registers that a line, the exit or the out of another register names, a
-/// native instruction all; it passes those that are outs of their own. The work is linear in the lines and the known exits.
+/// The row of a block, where these are its known exits: it uses the registers that a line, the exit or the out of another register
+/// names, a native instruction all; it passes those that are outs of their own. The work is linear in the lines and the known exits.
 ///
 /// An error comes for want of memory.
 pub fn row_of(alloc: Global, b: &Block, known: &[u32]) -> Result<LiveRow, AllocError>

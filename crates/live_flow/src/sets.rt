@@ -1,9 +1,9 @@
 //! Live sets of rows.
-ghost use Rattle.std.specs.Prelude.{◌≡◌, ℕ, ◌<◌, ◌≤◌, IfOk, OnOk, length, if◌then◌else◌, ◌==◌, ◌++◌, ◌∷◌, [], get_or, slice_set, bit_or, bit_and};
+ghost use Rattle.std.specs.Prelude.{◌≡◌, ℕ, ◌<◌, ◌≤◌, ◌∷◌, [], IfOk, OnOk, length};
 ghost use Rattle.pass_dead.specs.Names.{has};
-ghost use Rattle.live_flow.specs.Live.{row_at, needed_at, live_in, StartsAscend, NextAreStarts, IsAmong};
+ghost use Rattle.live_flow.specs.Live.{needed_at, live_in, StartsAscend, NextAreStarts, IsAmong};
 ghost use Rattle.live_flow.specs.Links.{AreLinks};
-ghost use Rattle.live_flow.specs.Growing.{In, Grows, IsUnder};
+ghost use Rattle.live_flow.specs.Growing.{AreNeeded, Grows, IsUnder};
 
 use crate::links::{Places, links_of};
 use crate::row::LiveRow;
@@ -59,7 +59,7 @@ fn hand_on(
 /// What each row reads, or hands on to the original program.
 fn all_needed(alloc: Global, rows: &[LiveRow]) -> Result<Vec<u16>, AllocError>
     ensures length { IfOk result (λ sets. length sets.items ≡ length rows.now) }
-    ensures needed { IfOk result (λ sets. (k v : ℕ) → k < length rows.now → has (get_or sets.items k 0) v ≡ needed_at (row_at rows.now k) v) }
+    ensures needed { IfOk result (λ sets. AreNeeded rows.now sets.items) }
 {
     let mut sets = Vec::new(alloc);
     for row in rows {

@@ -1,6 +1,8 @@
-//! Rows, worked out by hand.
+//! Rows and live sets, worked out by hand.
+ghost use Rattle.std.specs.Prelude.{◌≡◌, IfOk};
+ghost use Rattle.live_flow.specs.Examples.{chain};
 
-use crate::{Block, LiveRow, row_of};
+use crate::{Block, LiveRow, Starts, live, row_of};
 use ssa_form::{BinOp, Exit, Line, Lines, REGISTERS, Val, check_block};
 use std::alloc::{AllocError, Global};
 use std::test::Fail;
@@ -71,5 +73,46 @@ fn ways_out_of_branches_and_native_instructions(rt: HostRuntime) -> Result<(), F
     assert_eq!(rt; native.uses, 0x3FFF);
     assert_eq!(rt; native.passes, 0b11_1111_1111_1010);
     assert!(rt; !native.fallback);
+    Ok(())
+}
+
+/// A row.
+fn row(
+    alloc: Global,
+    start: u32,
+    sets: (u16, u16),
+    fallback: bool,
+    next: &[u32],
+) -> Result<LiveRow, AllocError>
+    ensures { IfOk result (λ row. row ≡ record { start = start; uses = sets.0; passes = sets.1; fallback = fallback; next = next.now }) }
+{
+    let next = Vec::from_slice(alloc, next)?;
+    Ok(LiveRow {
+        start,
+        uses: sets.0,
+        passes: sets.1,
+        fallback,
+        next: Starts::of(next),
+    })
+}
+
+/// A block that reads eax and may leave by a side exit, one that jumps back to it, and one that branches back to that and to itself.
+fn chain(alloc: Global) -> Result<Vec<LiveRow>, AllocError>
+    ensures { IfOk result (λ rows. rows.items ≡ chain) }
+{
+    let mut rows = Vec::new(alloc);
+    rows.push(row(alloc, 16, (1, 6), true, [].as_slice())?)?;
+    rows.push(row(alloc, 32, (0, 3), false, [16].as_slice())?)?;
+    rows.push(row(alloc, 48, (8, 5), false, [32, 48].as_slice())?)?;
+    Ok(rows)
+}
+
+#[test]
+fn what_is_needed_behind_is_live(rt: HostRuntime) -> Result<(), Fail> {
+    let alloc = rt.alloc();
+    let rows = chain(alloc)?;
+    let sets = live(alloc, rows.as_slice())?;
+    // the first hands ecx and edx on to the original; the second has eax and ecx of that, the third eax alone, and reads ebx
+    assert!(rt; sets.as_slice() == [7, 3, 9].as_slice());
     Ok(())
 }

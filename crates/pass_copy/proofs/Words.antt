@@ -1,16 +1,12 @@
 -- Numbers stay below 2 ^ 32, and memory keeps bytes.
-use Rattle.std.proofs.Common.{◌≡◌, ℕ, zero, suc, ◌+◌, ◌-◌, ◌*◌, ◌%◌, ◌^◌, ◌<◌, ◌≤◌, Bool, true, false, cond, ap, subst, ◌∙◌, refl, arith, Option, Some, None, List, [], ◌∷◌, ◌++◌, length, take, drop, ⊎_elim, pow-suc}
-use Rattle.std.specs.Prelude.{ℤ, pos, negsuc, ◌-ℤ◌, ◌==◌, nat_lt, option_map, ◌&&◌, if◌then◌else◌}
+use Rattle.std.proofs.Common.{◌≡◌, ℕ, zero, suc, ◌+◌, ◌-◌, ◌*◌, ◌%◌, ◌^◌, ◌<◌, Bool, true, false, cond, subst, refl, arith, Option, Some, None, List, [], ◌∷◌, ◌++◌, length, take, drop, pow-suc}
+use Rattle.std.specs.Prelude.{ℤ, pos, negsuc, ◌==◌, option_map, ◌&&◌, if◌then◌else◌}
 use Rattle.std.specs.Int.{byte_at, bytes_low_first}
-use Rattle.std.proofs.Math.Nat.{mod-eq_of_lt}
 use Rattle.std.proofs.lemmas.Nat.{mod_below, shr_le, or_of_32, xor_of_32}
 use Rattle.std.specs.Int.Bits.{and_le_l}
-use Rattle.std.proofs.lemmas.Bool.{cases_lt}
-use Rattle.std.proofs.lemmas.Bool.Decides.{nat_tests}
-use Rattle.std.proofs.lemmas.Int.{ints}
 use Rattle.br_word.specs.declared.types.Width.{Width}
 use Rattle.br_word.specs.declared.types.Width.TheVariants.{B8, B16, B32}
-use Rattle.br_word.specs.Words.{bit, signed, wrap, size_of}
+use Rattle.br_word.specs.Words.{bit, wrap, size_of}
 use Rattle.br_word.specs.Memory.{Region, Reads, Writes, load, store, bytes_at, written, number_of, bytes_of, put_over, covers, allows}
 use Rattle.ssa_form.specs.declared.form.BinOp.{BinOp}
 use Rattle.ssa_form.specs.declared.form.BinOp.TheVariants.{Add, Sub, And, Or, Xor, Mul, MulOver, Shl, Shr, Sar, Eq, Ult}

@@ -15,7 +15,7 @@ use Rattle.ssa_form.specs.Agree.{every}
 use Rattle.ssa_form.specs.Value.{Env, value, with_line, line_next, fold, IsAllowed, AllAllowed, numbered, bin_value, one_value, select_value, loaded, stored, exit_of}
 use Rattle.ssa_form.specs.Checked.{checked}
 use Rattle.ssa_form.specs.Same.{start_env, end_env, KeepsMeaning}
-use Rattle.pass_dead.specs.Names.{vals_of, exit_vals, vals_name, outs_name, is_store, NamedIn, ValsIn, IsClosed, IsLeast}
+use Rattle.pass_dead.specs.Names.{vals_of, exit_vals, is_store, NamedIn, ValsIn, IsClosed, IsLeast}
 use Rattle.pass_dead.specs.Needed.{always, needed, roots_of, kept_lines, pruned}
 use Rattle.pass_dead.proofs.Bools.{and_left, and_right, or_left, or_right}
 use Rattle.pass_dead.proofs.Least.{val_in, vals_in, needed_least}

@@ -1,7 +1,6 @@
 -- One backward sweep gives the least closed set.
-use Rattle.std.proofs.Common.{◌≡◌, ℕ, suc, ◌<◌, ◌≤◌, Bool, true, false, List, [], ◌∷◌, get_or, ◌⊎◌, inl, inr, sym, ap, subst, ◌∙◌, refl, arith, ⊎_elim}
-use Rattle.std.specs.Prelude.{◌&&◌, ◌||◌, nat_lt, nat_eq}
-use Rattle.std.proofs.lemmas.Bool.Decides.{nat_tests}
+use Rattle.std.proofs.Common.{◌≡◌, ℕ, suc, ◌<◌, ◌≤◌, Bool, true, false, List, [], ◌∷◌, get_or, sym, ap, subst, ◌∙◌, refl, arith, ⊎_elim}
+use Rattle.std.specs.Prelude.{◌&&◌, nat_lt, nat_eq}
 use Rattle.ssa_form.specs.declared.form.Val.{Val}
 use Rattle.ssa_form.specs.declared.form.Val.TheVariants.{Param, Line as Of, Num}
 use Rattle.ssa_form.specs.declared.form.Line.{Line}

@@ -1,5 +1,5 @@
 -- Steps of the loops over lines and outs.
-use Rattle.std.proofs.Common.{◌≡◌, ℕ, zero, suc, ◌+◌, ◌<◌, ◌^◌, Bool, true, false, List, [], ◌∷◌, ◌++◌, length, get_or, drop, sym, ap, subst, ◌∙◌, refl, arith, append_assoc}
+use Rattle.std.proofs.Common.{◌≡◌, ℕ, suc, ◌+◌, ◌<◌, ◌^◌, Bool, true, false, List, [], ◌∷◌, ◌++◌, length, get_or, drop, sym, ap, ◌∙◌, refl, arith, append_assoc}
 use Rattle.std.specs.Prelude.{◌||◌, ◌&&◌, ◌/◌, if◌then◌else◌, bit_and}
 use Rattle.std.specs.Int.{bit_at}
 use Rattle.std.proofs.lemmas.Bool.{eq-eqb, ne_eqb}
@@ -9,10 +9,9 @@ use Rattle.ssa_form.specs.declared.form.Val.{Val}
 use Rattle.ssa_form.specs.declared.form.Val.TheVariants.{Num}
 use Rattle.ssa_form.specs.declared.form.Line.{Line}
 use Rattle.ssa_form.specs.declared.form.Line.TheVariants.{Gone}
-use Rattle.ssa_form.specs.Agree.{every}
 use Rattle.pass_dead.specs.Names.{vals_of, val_names, vals_name, outs_name, set_of, has}
 use Rattle.pass_dead.specs.Needed.{marked, needed_from, needed, kept_lines}
-use Rattle.pass_dead.proofs.Bools.{or_or, or_none}
+use Rattle.pass_dead.proofs.Bools.{or_or}
 
 -- ---- sets that agree on the lines give the same
 marked_same : (b c : Bool) (l : Line) (s t : ℕ → Bool) (j : ℕ) → b ≡ c → s j ≡ t j → marked b l s j ≡ marked c l t j

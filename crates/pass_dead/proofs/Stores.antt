@@ -1,10 +1,10 @@
 -- Stores that stay, and outs by their numbers.
-use Rattle.std.proofs.Common.{◌≡◌, ℕ, zero, suc, ◌+◌, Bool, true, List, [], ◌∷◌, get_or, sym, ap, ◌∙◌, arith, refl}
+use Rattle.std.proofs.Common.{◌≡◌, ℕ, zero, suc, ◌+◌, Bool, true, List, [], ◌∷◌, get_or, sym, ap, ◌∙◌, arith}
 use Rattle.std.specs.Prelude.{◌&&◌}
 use Rattle.ssa_form.specs.declared.form.Val.{Val}
 use Rattle.ssa_form.specs.declared.form.Val.TheVariants.{Num}
 use Rattle.ssa_form.specs.declared.form.Line.{Line}
-use Rattle.ssa_form.specs.declared.form.Line.TheVariants.{Bin, One, Select, Load, Store, Gone}
+use Rattle.ssa_form.specs.declared.form.Line.TheVariants.{Gone}
 use Rattle.pass_dead.specs.Names.{val_names, outs_name, is_store}
 use Rattle.pass_dead.proofs.Bools.{both, or_left, or_right}
 

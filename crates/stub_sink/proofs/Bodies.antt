@@ -1,13 +1,12 @@
 -- The parts of a split from their marks.
-use Rattle.std.proofs.Common.{◌≡◌, ℕ, ◌+◌, ◌<◌, Bool, true, false, List, length, get_or, ap, sym, ◌∙◌, refl, arith}
+use Rattle.std.proofs.Common.{◌≡◌, ℕ, ◌<◌, Bool, false, List, length, get_or, ap, ◌∙◌}
 use Rattle.std.specs.Prelude.{◌&&◌, ◌||◌, not}
 use Rattle.ssa_form.specs.declared.form.Line.TheVariants.{Gone}
 use Rattle.ssa_form.specs.declared.form.Block.{Block}
 use Rattle.ssa_form.specs.declared.form.BlockKey.{BlockKey}
 use Rattle.ssa_form.specs.declared.form.Split.{Split}
-use Rattle.ssa_form.specs.Agree.{every}
 use Rattle.pass_dead.specs.Names.{outs_name, has, set_of}
-use Rattle.pass_dead.specs.Needed.{always, needed, roots_of}
+use Rattle.pass_dead.specs.Needed.{always, roots_of}
 use Rattle.pass_dead.proofs.Steps.{needed_same, outs_same}
 use Rattle.stub_sink.specs.Splits.{has_fallback, starts_of, live_at, is_load, fall_of, body_of, sunk_of, listed, split_of}
 use Rattle.stub_sink.proofs.Listing.{listed_is}

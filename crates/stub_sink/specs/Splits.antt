@@ -1,5 +1,5 @@
 -- Which lines a fragment runs on every way out, and which only where it is left by a side exit.
-use Rattle.std.specs.Prelude.{ℕ, suc, Bool, true, false, ◌||◌, ◌&&◌, ◌==◌, not, List, [], ◌∷◌, get_or, map}
+use Rattle.std.specs.Prelude.{◌≡◌, ◌<◌, length, ℕ, suc, Bool, true, false, ◌||◌, ◌&&◌, ◌==◌, not, List, [], ◌∷◌, get_or, map}
 use Rattle.std.specs.List.{list_any}
 use Rattle.ssa_form.specs.declared.form.Line.{Line}
 use Rattle.ssa_form.specs.declared.form.Line.TheVariants.{Load, Gone}
@@ -9,7 +9,7 @@ use Rattle.ssa_form.specs.declared.form.Block.{Block}
 use Rattle.ssa_form.specs.declared.form.BlockKey.{BlockKey}
 use Rattle.ssa_form.specs.declared.form.Split.{Split}
 use Rattle.ssa_form.specs.Agree.{every}
-use Rattle.pass_dead.specs.Names.{outs_name, has}
+use Rattle.pass_dead.specs.Names.{outs_name, has, set_of}
 use Rattle.pass_dead.specs.Needed.{needed, roots_of}
 
 -- ---- the ways out
@@ -52,10 +52,22 @@ sunk_of live unknown b j = fall_of unknown b j && not (body_of live unknown b j)
 
 -- ---- the split
 
+-- marks of lines are those of a set
+abbrev pub IsSet : List Bool → List Line → (ℕ → Bool) → Type 0
+IsSet marks ls set = (j : ℕ) → j < length ls → set_of marks j ≡ set j
+
 -- of the lines from number n on, whether each is in the set
 abbrev pub listed : (ℕ → Bool) → ℕ → List Line → List Bool
 listed set n [] = []
 listed set n (l ∷ ls) = set n ∷ listed set (suc n) ls
+
+-- marks of what is in one set and not in another
+abbrev pub IsWithout : (set other marks : List Bool) → Type 0
+IsWithout set other marks = (j : ℕ) → j < length set → set_of marks j ≡ (set_of set j && not (set_of other j))
+
+-- marks of the body, from those of what a side exit needs
+abbrev pub IsBodyOf : (live : ℕ) → Block → (fall body : List Bool) → Type 0
+IsBodyOf live b fall body = (unknown : Bool) → IsSet fall b.lines (fall_of unknown b) → IsSet body b.lines (body_of (has live) unknown b)
 
 abbrev pub split_of : Block → BlockKey → Split
 split_of b key =

@@ -2,7 +2,7 @@
 ghost use Rattle.std.specs.Prelude.{◌≡◌, ℕ, ◌<◌, ◌&&◌, Bool, true, false, not, IfOk, length, get_or};
 ghost use Rattle.ssa_form.specs.declared.form.Line.TheVariants.{Gone};
 ghost use Rattle.pass_dead.specs.Names.{set_of, has, Adds};
-ghost use Rattle.stub_sink.specs.Splits.{is_load, fall_of, body_of, listed, split_of};
+ghost use Rattle.stub_sink.specs.Splits.{is_load, fall_of, IsSet, IsWithout, IsBodyOf, split_of};
 
 use crate::exits::{has_fallback, live_at, starts_of};
 use pass_dead::{mark_all_outs, mark_always, mark_needed, mark_outs};
@@ -13,7 +13,7 @@ use std::alloc::{AllocError, Global};
 fn mark_fall(b: &Block, marks: &mut [bool])
     requires length { length marks.old ≡ length b.now.lines }
     requires none { (j : ℕ) → set_of marks.old j ≡ false }
-    ensures { (j : ℕ) → j < length b.now.lines → set_of marks.new j ≡ fall_of true b.now j }
+    ensures { IsSet marks.new b.now.lines (fall_of true b.now) }
 {
     mark_all_outs(&b.outs, marks);
     mark_needed(&b.lines, marks);
@@ -22,7 +22,7 @@ fn mark_fall(b: &Block, marks: &mut [bool])
 /// What a side exit needs of a block, nothing where it has none.
 fn fall_marks(alloc: Global, b: &Block, unknown: bool) -> Result<Vec<bool>, AllocError>
     ensures length { IfOk result (λ marks. length marks.items ≡ length b.now.lines) }
-    ensures marks { IfOk result (λ marks. (j : ℕ) → j < length b.now.lines → set_of marks.items j ≡ fall_of unknown b.now j) }
+    ensures marks { IfOk result (λ marks. IsSet marks.items b.now.lines (fall_of unknown b.now)) }
 {
     let mut marks = vec![in alloc; false; b.lines.len()]?;
     if unknown {
@@ -44,13 +44,13 @@ fn mark_loads(lines: &Lines, set: &[bool], marks: &mut [bool])
     }
 }
 
-/// Marks the body of a block, nothing of which is marked before, from the registers that are live at a known exit and from what a side exit
-/// needs.
+/// Marks the body of a block, nothing of which is marked before, from the registers that are live at a known exit and from what a side
+/// exit needs.
 fn mark_body(b: &Block, live: u16, fall: &[bool], marks: &mut [bool])
     requires fall { length fall.now ≡ length b.now.lines }
     requires marks { length marks.old ≡ length b.now.lines }
     requires none { (j : ℕ) → set_of marks.old j ≡ false }
-    ensures { (unknown : Bool) → ((j : ℕ) → j < length b.now.lines → set_of fall.now j ≡ fall_of unknown b.now j) → (j : ℕ) → j < length b.now.lines → set_of marks.new j ≡ body_of (has live) unknown b.now j }
+    ensures { IsBodyOf live b.now fall.now marks.new }
 {
     mark_always(b, marks);
     mark_outs(&b.outs, live, marks);
@@ -62,7 +62,7 @@ fn mark_body(b: &Block, live: u16, fall: &[bool], marks: &mut [bool])
 fn body_marks(alloc: Global, b: &Block, live: u16, fall: &[bool]) -> Result<Vec<bool>, AllocError>
     requires { length fall.now ≡ length b.now.lines }
     ensures length { IfOk result (λ marks. length marks.items ≡ length b.now.lines) }
-    ensures marks { IfOk result (λ marks. (unknown : Bool) → ((j : ℕ) → j < length b.now.lines → set_of fall.now j ≡ fall_of unknown b.now j) → (j : ℕ) → j < length b.now.lines → set_of marks.items j ≡ body_of (has live) unknown b.now j) }
+    ensures marks { IfOk result (λ marks. IsBodyOf live b.now fall.now marks.items) }
 {
     let mut marks = vec![in alloc; false; b.lines.len()]?;
     mark_body(b, live, fall, marks.as_mut_slice());
@@ -73,7 +73,7 @@ fn body_marks(alloc: Global, b: &Block, live: u16, fall: &[bool]) -> Result<Vec<
 fn without(alloc: Global, set: &[bool], other: &[bool]) -> Result<Vec<bool>, AllocError>
     requires { length other.now ≡ length set.now }
     ensures length { IfOk result (λ marks. length marks.items ≡ length set.now) }
-    ensures marks { IfOk result (λ marks. (j : ℕ) → j < length set.now → set_of marks.items j ≡ (set_of set.now j && not (set_of other.now j))) }
+    ensures marks { IfOk result (λ marks. IsWithout set.now other.now marks.items) }
 {
     let mut marks = Vec::new(alloc);
     for index in 0..set.len() {
@@ -82,8 +82,8 @@ fn without(alloc: Global, set: &[bool], other: &[bool]) -> Result<Vec<bool>, All
     Ok(marks)
 }
 
-/// The split of a block by a key: which lines are done on every way out, and which only where the block is left by a side exit. The work is
-/// linear in the lines and the known exits.
+/// The split of a block by a key: which lines are done on every way out, and which only where the block is left by a side exit. The
+/// work is linear in the lines and the known exits.
 ///
 /// An error comes for want of memory.
 pub fn split(alloc: Global, b: &Block, key: &BlockKey) -> Result<Split, AllocError>

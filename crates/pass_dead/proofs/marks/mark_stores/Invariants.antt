@@ -1,4 +1,4 @@
-use Rattle.std.proofs.Common.{◌≡◌, ℕ, ◌<◌, ◌≤◌, length, get_or}
+use Rattle.std.proofs.Common.{◌≡◌, ℕ, ◌<◌, ◌≤◌, get_or}
 use Rattle.std.specs.Prelude.{◌||◌}
 use Rattle.ssa_form.specs.declared.form.Line.TheVariants.{Gone}
 use Rattle.pass_dead.specs.Names.{is_store, set_of}

@@ -1,7 +1,7 @@
 use Rattle.std.proofs.Common.{◌∙◌, ap, arith}
 use Rattle.std.specs.Prelude.{◌||◌}
 use Rattle.ssa_form.specs.Agree.{every}
-use Rattle.pass_dead.specs.Names.{set_of, outs_name}
+use Rattle.pass_dead.specs.Names.{outs_name}
 use Rattle.pass_dead.specs.Needed.{always, roots_of}
 use Rattle.pass_dead.proofs.Steps.{needed_same}
 use Rattle.pass_dead.proofs.pruning.mark_block.Goals as goal
