@@ -55,6 +55,14 @@ rows_held places (l ∷ ls) i h =
     (subst (λ (j : ℕ). AreHeld places j l) z (h 0 (omega arith)),
     rows_held places ls (suc i) (λ k lt. let e : i + suc k ≡ suc i + k = omega arith in subst (λ (j : ℕ). AreHeld places j (get_or ls k Gone)) e (h (suc k) (omega arith))))
 
+pub words_all : (es : List (ℕ × ℕ)) → ((k : ℕ) → k < length es → (get_or es k (0, 0)).0 < 2 ^ 32) → AreWords es
+words_all [] h = tt
+words_all (e ∷ es) h = (h 0 (omega arith), words_all es (λ k l. h (suc k) (omega arith)))
+
+pub items_are : (exe : Exe) (key : BlockKey) (c : Choice) (p q r : List Item) (set : List Bool) → p ≡ [] → set ≡ c.split.body → q ≡ p ++ lines_items c set → r ≡ q ++ exit_items exe key c c.block.exit → r ≡ lines_items c c.split.body ++ exit_items exe key c c.block.exit
+items_are exe key c p q r set a b d e =
+    e ∙ ap (λ (xs : List Item). xs ++ exit_items exe key c c.block.exit) (d ∙ ap (λ (xs : List Item). xs ++ lines_items c set) a ∙ ap (λ (s : List Bool). lines_items c s) b)
+
 module _ (c : Choice) (h : ArePlaced c.block c.split (placed c.block c.split)) where
   abbrev places : List (Option Place)
   places = placed c.block c.split
