@@ -51,9 +51,10 @@ short trip most i v = (most (canonical i ++ []) i (length (canonical i)) (trip i
 rows_held : (places : List (Option Place)) (ls : List Line) (i : ℕ) → ((k : ℕ) → k < length ls → AreHeld places (i + k) (get_or ls k Gone)) → RowsHeld places (numbered i ls)
 rows_held places [] i h = tt
 rows_held places (l ∷ ls) i h =
-    let z : i + 0 ≡ i = omega arith in
-    (subst (λ (j : ℕ). AreHeld places j l) z (h 0 (omega arith)),
-    rows_held places ls (suc i) (λ k lt. let e : i + suc k ≡ suc i + k = omega arith in subst (λ (j : ℕ). AreHeld places j (get_or ls k Gone)) e (h (suc k) (omega arith))))
+    let z : i + 0 ≡ i = omega arith in (
+      subst (λ (j : ℕ). AreHeld places j l) z (h 0 (omega arith)),
+      rows_held places ls (suc i) (λ k lt. let e : i + suc k ≡ suc i + k = omega arith in subst (λ (j : ℕ). AreHeld places j (get_or ls k Gone)) e (h (suc k) (omega arith))),
+    )
 
 pub words_all : (es : List (ℕ × ℕ)) → ((k : ℕ) → k < length es → (get_or es k (0, 0)).0 < 2 ^ 32) → AreWords es
 words_all [] h = tt

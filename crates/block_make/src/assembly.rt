@@ -124,11 +124,7 @@ fn note(labels: &mut Vec<Option<u32>>, name: u32, offset: u32) -> Result<(), All
 }
 
 /// Notes the offset of an item that is a label. An error comes for want of memory.
-fn note_label(
-    labels: &mut Vec<Option<u32>>,
-    item: &Item,
-    offset: u32,
-) -> Result<(), AllocError>
+fn note_label(labels: &mut Vec<Option<u32>>, item: &Item, offset: u32) -> Result<(), AllocError>
     ensures { OnOk result ((l other : ℕ) → noted_or other (slice_get labels.new.items l)
         ≡ noted_or (if is_label l item.now then offset else other) (slice_get labels.old.items l)) }
 {

@@ -27,7 +27,7 @@ loop-index-preserved c =
     let m : i < length piece = subst (λ (xs : List Item). i < length xs) e l in
     let lengths : HasLengths = record { jcc = c.direct_lengths.ensures.jcc; jmp = c.direct_lengths.ensures.jmp } in
     let found : (k : ℕ) → offset_in c.as_slice.result.now k ≡ dest (dests.Label k) =
-        λ k. ap (λ xs. offset_in xs k) c.as_slice.ensures.value ∙ c.in_ok-labels.ensures k ∙ ap (λ (is : List Item). label_at 0 is k) e in
+    λ k. ap (λ xs. offset_in xs k) c.as_slice.ensures.value ∙ c.in_ok-labels.ensures k ∙ ap (λ (is : List Item). label_at 0 is k) e in
     let at = length c.loop-index.bytes.items in
     let n : c.len.result ≡ at = (let a = c.len.ensures in let o = c.loop-index.bytes.ok.0 in omega (arith, a, o)) in
     stands_more lengths dest piece i no_item c.loop-index.bytes.items c.write_item.new.bytes.items c.loop-index.fixes.items c.note_fix.new.fixes.items m

@@ -36,11 +36,11 @@ returns c =
     let bytes : take own.len own.bytes ≡ own_bytes exe key.start c.args.len = c.in-Some.ensures.bytes ∙ ap (λ (n : ℕ). take n (code_at key.start exe.segments)) e in
     let behind = key.start + own.len in
     let known : c.match-live_at.next ≡ dest_of behind (live_at key.exits behind) =
-        elim c.match-live_at.branch [
-          | in-Some-live_at w ↦ w.next-is ∙ to_block behind (live_at key.exits behind) _ (w.in-Some-live_at.ensures ∙ ap (λ (es : List (ℕ × ℕ)). live_at es behind) c.as_slice.ensures)
-          | in-None w ↦ w.next-is ∙ to_original behind (live_at key.exits behind) (w.in-None.ensures ∙ ap (λ (es : List (ℕ × ℕ)). live_at es behind) c.as_slice.ensures)
-        ] in
+    elim c.match-live_at.branch [
+      | in-Some-live_at w ↦ w.next-is ∙ to_block behind (live_at key.exits behind) _ (w.in-Some-live_at.ensures ∙ ap (λ (es : List (ℕ × ℕ)). live_at es behind) c.as_slice.ensures)
+      | in-None w ↦ w.next-is ∙ to_original behind (live_at key.exits behind) (w.in-None.ensures ∙ ap (λ (es : List (ℕ × ℕ)). live_at es behind) c.as_slice.ensures)
+    ] in
     let next : c.match-live_at.next ≡ dest_of (key.start + c.args.len) (live_at key.exits (key.start + c.args.len)) =
-        known ∙ ap (λ (n : ℕ). dest_of (key.start + n) (live_at key.exits (key.start + n))) e in
+    known ∙ ap (λ (n : ℕ). dest_of (key.start + n) (live_at key.exits (key.start + n))) e in
     subst (λ (xs : List ℕ). OnOk c.island.result (c.island.new.p ≡ c.args.p.now ++ island_items register_homes xs 0 (dest_of (key.start + c.args.len) (live_at key.exits (key.start + c.args.len))))) bytes
     (subst (λ (d : Dest). OnOk c.island.result (c.island.new.p ≡ c.args.p.now ++ island_items register_homes (take own.len own.bytes) 0 d)) next c.island.ensures.ok)

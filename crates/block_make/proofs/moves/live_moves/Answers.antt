@@ -51,9 +51,9 @@ loop-register-preserved c =
           ∙ w.in_ok-push.ensures.items
           ∙ ap (λ (to : Place). c.loop-register.moves.items ++ made to w.source.result ∷ []) w.home.ensures.value
           ∙ ap (λ (from : MoveSource). c.loop-register.moves.items ++ made (home_of v) from ∷ [])
-            (w.source.ensures.value
-            ∙ ap (λ (ps : List (Option Place)). held_by home_of (place_at ps) (get_or of.block.outs v (val.Param 0))) (w.as_slice.ensures.value ∙ c.requires.given)
-            ∙ ap (λ (x : Val). held_by home_of place x) d))
+          (w.source.ensures.value
+          ∙ ap (λ (ps : List (Option Place)). held_by home_of (place_at ps) (get_or of.block.outs v (val.Param 0))) (w.as_slice.ensures.value ∙ c.requires.given)
+          ∙ ap (λ (x : Val). held_by home_of place x) d))
       | else-is_moved w ↦
           move_left home_of place live of.block.outs v _ c.loop-register.moves.items l (sym now ∙ w.if-is_moved.false) c.loop-register.invariant
           ∙ ap (λ (xs : List PlaceMove). xs ++ moves_left home_of place live of.block.outs (v + 1)) (let m = w.moves-is in same_items c.if-is_moved.moves.items c.loop-register.moves.items cc)
