@@ -18,6 +18,10 @@ split xs i d l = drop-cons xs i d l ∙ ap (λ k. get_or xs i d ∷ drop k xs) (
 
 -- ---- items of a list
 
+-- what an index past the end reads
+abbrev pub no_item : Item
+no_item = item.Inst (Rattle.ia_inst.specs.declared.inst.Inst.TheVariants.Alu 0 Rattle.br_word.specs.declared.types.Width.TheVariants.B8 (Rattle.ia_inst.specs.declared.inst.Rm.TheVariants.Reg 0) (Rattle.ia_inst.specs.declared.inst.Src.TheVariants.Rm (Rattle.ia_inst.specs.declared.inst.Rm.TheVariants.Reg 0)))
+
 pub item_valid : (items : List Item) (i : ℕ) (d : Item) → i < length items → AreValid items → IsItem (get_or items i d)
 item_valid [] i d l v = absurd (omega arith)
 item_valid (item.Inst x ∷ is) zero d l v = v.0
@@ -40,23 +44,10 @@ AreNoted labels offset items all = (l : ℕ) → noted_or (label_at offset items
 pub none_noted : (all : List Item) → AreNoted [] 0 all all
 none_noted all l = refl
 
-pub label_noted : (labels more : List (Option ℕ)) (items all : List Item) (i offset next name : ℕ) (d : Item) → i < length items → get_or items i d ≡ item.Label name → next ≡ offset + size_of_item (get_or items i d) → ((l other : ℕ) → noted_or other (slice_get more l) ≡ noted_or (if nat_eq name l then offset else other) (slice_get labels l)) → AreNoted labels offset (drop i items) all → AreNoted more next (drop (i + 1) items) all
-label_noted labels more items all i offset next name d lt e n m h l =
-    ap (λ k. noted_or (label_at k (drop (i + 1) items) l) (slice_get more l)) (n ∙ ap (λ x. offset + size_of_item x) e)
-    ∙ m l (label_at (offset + 0) (drop (i + 1) items) l)
-    ∙ sym (ap (λ xs. noted_or (label_at offset xs l) (slice_get labels l)) (split items i d lt ∙ ap (λ x. x ∷ drop (i + 1) items) e))
-    ∙ h l
-
-no_label : (x : Item) → ((name : ℕ) → x ≡ item.Label name → ⊥) → (l : ℕ) → is_label l x ≡ false
-no_label (item.Inst i) n l = refl
-no_label (item.Byte b) n l = refl
-no_label (item.Jump cond t) n l = refl
-no_label (item.Label m) n l = absurd (n m refl)
-
-pub other_noted : (labels : List (Option ℕ)) (items all : List Item) (i offset next : ℕ) (d : Item) → i < length items → ((name : ℕ) → get_or items i d ≡ item.Label name → ⊥) → next ≡ offset + size_of_item (get_or items i d) → AreNoted labels offset (drop i items) all → AreNoted labels next (drop (i + 1) items) all
-other_noted labels items all i offset next d lt o n h l =
-    ap (λ k. noted_or (label_at k (drop (i + 1) items) l) (slice_get labels l)) n
-    ∙ sym (ap (λ (b : Bool). noted_or (if b then offset else label_at (offset + size_of_item (get_or items i d)) (drop (i + 1) items) l) (slice_get labels l)) (no_label (get_or items i d) o l))
+pub item_noted : (labels more : List (Option ℕ)) (items all : List Item) (i offset next : ℕ) (d : Item) → i < length items → next ≡ offset + size_of_item (get_or items i d) → ((l other : ℕ) → noted_or other (slice_get more l) ≡ noted_or (if is_label l (get_or items i d) then offset else other) (slice_get labels l)) → AreNoted labels offset (drop i items) all → AreNoted more next (drop (i + 1) items) all
+item_noted labels more items all i offset next d lt n m h l =
+    ap (λ k. noted_or (label_at k (drop (i + 1) items) l) (slice_get more l)) n
+    ∙ m l (label_at (offset + size_of_item (get_or items i d)) (drop (i + 1) items) l)
     ∙ sym (ap (λ xs. noted_or (label_at offset xs l) (slice_get labels l)) (split items i d lt))
     ∙ h l
 

@@ -87,9 +87,10 @@ module _ (c : Choice) where
   tails_distinct : (label : ℕ) (es : List (ℕ × ℕ)) → AreDistinct (tails_items c label es)
   tails_distinct label [] = tt
   tails_distinct label (e ∷ es) =
-      let t = tails_lack label (suc label) es (omega arith) in
-      (lack_append label (tail_items c e.1 e.0) (tails_items c (suc label) es) (tail_lacks e.1 e.0 label) t,
-      distinct_append (tail_items c e.1 e.0) (tails_items c (suc label) es) label (tail_one e.1 e.0 label) (tails_distinct (suc label) es) t)
+      let t = tails_lack label (suc label) es (omega arith) in (
+        lack_append label (tail_items c e.1 e.0) (tails_items c (suc label) es) (tail_lacks e.1 e.0 label) t,
+        distinct_append (tail_items c e.1 e.0) (tails_items c (suc label) es) label (tail_one e.1 e.0 label) (tails_distinct (suc label) es) t,
+      )
 
   exit_distinct : (exe : Exe) (key : BlockKey) (e : Exit) → AreDistinct (exit_items exe key c e)
   exit_distinct exe key (exits.Jump to) = (part_one 0 to (live_at key.exits to)).distinct

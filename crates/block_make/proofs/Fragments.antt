@@ -34,12 +34,12 @@ use Rattle.emit_ops.specs.Placed.{place_at, IsHeld, AreHeld}
 use Rattle.emit_ops.specs.Sequences.{kept, lines_code, moves_code, live_moves, in_order}
 use Rattle.fall_stubs.specs.Exchange.{opening_items, island_items}
 use Rattle.block_make.specs.declared.fragment.TheConstants.{MAX_EXITS}
-use Rattle.block_make.specs.Choices.{Choice, place_in}
-use Rattle.block_make.specs.FragmentItems.{lines_items, moves_items, source_in, tail_items, regain_items, stub_items, part_items, cond_items, aim_items, compare_items, tails_items, way_stub_items, dest_of, own_bytes, exit_items}
+use Rattle.block_make.specs.Choices.{Choice, choice_of, place_in, ready}
+use Rattle.block_make.specs.FragmentItems.{lines_items, moves_items, source_in, tail_items, regain_items, stub_items, part_items, cond_items, aim_items, compare_items, tails_items, way_stub_items, dest_of, own_bytes, exit_items, items_of}
 use Rattle.block_make.specs.Keys.{live_at, has}
 use Rattle.block_make.specs.Prepared.{SpellsFew, ArePlaced}
-use Rattle.block_make.specs.Laws.{AreWords}
-use Rattle.block_make.proofs.Splits.{IsWhole, whole, ExitHeld, exit_held, lines_held, outs_held}
+use Rattle.block_make.specs.Laws.{AreWords, IsLifted}
+use Rattle.block_make.proofs.Splits.{IsWhole, whole, placed_so, ExitHeld, exit_held, lines_held, outs_held}
 use Rattle.block_make.proofs.Sequence.{AllFit, fit_sequenced, sequenced_length, live_fit, live_length}
 use Rattle.block_make.proofs.Validity.{into, fits, moves_valid, RowsHeld, lines_valid, puts_valid, valid_append, opening_valid, island_valid, lack_append, lack_puts, puts_distinct, HasOne, distinct_append, opening_one, island_distinct}
 use Rattle.block_make.proofs.Counts.{AreShort, size_most, lines_count, rows_count, moves_count}
@@ -51,9 +51,18 @@ short trip most i v = (most (canonical i ++ []) i (length (canonical i)) (trip i
 rows_held : (places : List (Option Place)) (ls : List Line) (i : ℕ) → ((k : ℕ) → k < length ls → AreHeld places (i + k) (get_or ls k Gone)) → RowsHeld places (numbered i ls)
 rows_held places [] i h = tt
 rows_held places (l ∷ ls) i h =
-    let z : i + 0 ≡ i = omega arith in
-    (subst (λ (j : ℕ). AreHeld places j l) z (h 0 (omega arith)),
-    rows_held places ls (suc i) (λ k lt. let e : i + suc k ≡ suc i + k = omega arith in subst (λ (j : ℕ). AreHeld places j (get_or ls k Gone)) e (h (suc k) (omega arith))))
+    let z : i + 0 ≡ i = omega arith in (
+      subst (λ (j : ℕ). AreHeld places j l) z (h 0 (omega arith)),
+      rows_held places ls (suc i) (λ k lt. let e : i + suc k ≡ suc i + k = omega arith in subst (λ (j : ℕ). AreHeld places j (get_or ls k Gone)) e (h (suc k) (omega arith))),
+    )
+
+pub words_all : (es : List (ℕ × ℕ)) → ((k : ℕ) → k < length es → (get_or es k (0, 0)).0 < 2 ^ 32) → AreWords es
+words_all [] h = tt
+words_all (e ∷ es) h = (h 0 (omega arith), words_all es (λ k l. h (suc k) (omega arith)))
+
+pub items_are : (exe : Exe) (key : BlockKey) (c : Choice) (p q r : List Item) (set : List Bool) → p ≡ [] → set ≡ c.split.body → q ≡ p ++ lines_items c set → r ≡ q ++ exit_items exe key c c.block.exit → r ≡ lines_items c c.split.body ++ exit_items exe key c c.block.exit
+items_are exe key c p q r set a b d e =
+    e ∙ ap (λ (xs : List Item). xs ++ exit_items exe key c c.block.exit) (d ∙ ap (λ (xs : List Item). xs ++ lines_items c set) a ∙ ap (λ (s : List Bool). lines_items c s) b)
 
 module _ (c : Choice) (h : ArePlaced c.block c.split (placed c.block c.split)) where
   abbrev places : List (Option Place)
@@ -222,3 +231,10 @@ module _ (c : Choice) (h : ArePlaced c.block c.split (placed c.block c.split)) w
       let d = lines_few c.split.body in
       let e = exit_few exe key c.block.exit m h.exit in
       omega (arith, a, b, d, e)
+
+-- given a block as lifting makes it
+pub items_valid : (exe : Exe) (key : BlockKey) → IsLifted (ready exe key.start) → AreWords key.exits → AreValid (items_of exe key)
+unfolding items_of
+items_valid exe key h w =
+    let c = choice_of exe key in
+    all_valid c (placed_so (ready exe key.start) key (placed c.block c.split) h.whole h.words h.exit h.few refl) exe key w

@@ -67,3 +67,6 @@ native_found one exe start n q =
 
 pub same_len : (i j : Inst) (n m : ℕ) → ◌≡◌ {A = Option (Inst × ℕ)} (Some (i, n)) (Some (j, m)) → n ≡ m
 same_len i j n m q = let e : ◌≡◌ {A = Inst × ℕ} (i, n) (j, m) = cc in ap (λ (x : Inst × ℕ). x.1) e
+
+pub not_found : (x : Inst × ℕ) → ◌≡◌ {A = Option (Inst × ℕ)} None (Some x) → ⊥
+not_found x e = cc

@@ -135,7 +135,7 @@ module _ (b : Block) (s : Split) (places : List (Option Place)) (h : ArePlaced b
       let few = h.few in
       let z : 0 + j ≡ j = omega arith in
       let e : slice_get places j ≡ Some (place_for ((is_in s.body j || is_in s.sunk j) && has_result (get_or b.lines j Gone)) j) =
-          ap (λ (xs : List (Option Place)). slice_get xs j) h.given ∙ subst (λ (k : ℕ). slice_get (placed b s) j ≡ Some (place_for ((is_in s.body k || is_in s.sunk k) && has_result (get_or b.lines j Gone)) k)) z (places_nth s.body s.sunk 0 b.lines j l) in
+      ap (λ (xs : List (Option Place)). slice_get xs j) h.given ∙ subst (λ (k : ℕ). slice_get (placed b s) j ≡ Some (place_for ((is_in s.body k || is_in s.sunk k) && has_result (get_or b.lines j Gone)) k)) z (places_nth s.body s.sunk 0 b.lines j l) in
       subst IsPlace (sym (e ∙ ap (λ (x : Bool). Some (place_for (x && has_result (get_or b.lines j Gone)) j)) (h.every j l) ∙ ap (λ (x : Bool). Some (place_for x j)) r)) (slot_is j (omega arith))
 
   pub held : (n : ℕ) (v : Val) → n ≤ length b.lines → val_checked b.lines n v ≡ true → IsWord v → IsHeld places v

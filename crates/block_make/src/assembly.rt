@@ -4,7 +4,7 @@ ghost use Rattle.ia_inst.specs.Canonical.{canonical, valid_of};
 ghost use Rattle.ia_encode.specs.declared.item.Dest.{Dest};
 ghost use Rattle.ia_encode.specs.declared.item.Dest.TheVariants as dests;
 ghost use Rattle.ia_encode.specs.declared.item.Item.TheVariants as item;
-ghost use Rattle.ia_encode.specs.Items.{AreValid, IsCondition, jump_inst, size_of_item, size_of_items, size_of_jump};
+ghost use Rattle.ia_encode.specs.Items.{AreValid, IsCondition, is_label, jump_inst, size_of_item, size_of_items, size_of_jump};
 ghost use Rattle.block_make.specs.FragmentCode.{code_of_items, fix_of, open_bytes};
 ghost use Rattle.block_make.specs.Labels.{AreFound, IsItem, list_of, noted_or, offset_in, open_distance};
 
@@ -123,6 +123,17 @@ fn note(labels: &mut Vec<Option<u32>>, name: u32, offset: u32) -> Result<(), All
     Ok(())
 }
 
+/// Notes the offset of an item that is a label. An error comes for want of memory.
+fn note_label(labels: &mut Vec<Option<u32>>, item: &Item, offset: u32) -> Result<(), AllocError>
+    ensures { OnOk result ((l other : ℕ) → noted_or other (slice_get labels.new.items l)
+        ≡ noted_or (if is_label l item.now then offset else other) (slice_get labels.old.items l)) }
+{
+    match *item {
+        Item::Label(name) => note(labels, name, offset),
+        Item::Inst(_) | Item::Byte(_) | Item::Jump { .. } => Ok(()),
+    }
+}
+
 /// The offsets of labels. An error comes for want of memory.
 fn find_labels(alloc: Global, items: &[Item]) -> Result<Vec<Option<u32>>, AllocError>
     requires valid { AreValid items.now }
@@ -132,11 +143,8 @@ fn find_labels(alloc: Global, items: &[Item]) -> Result<Vec<Option<u32>>, AllocE
     let mut labels = Vec::new(alloc);
     let mut offset = 0;
     for index in 0..items.len() {
-        let item = items[index];
-        if let Item::Label(name) = item {
-            note(&mut labels, name, offset)?;
-        }
-        offset += size_of_item(&item);
+        note_label(&mut labels, &items[index], offset)?;
+        offset += size_of_item(&items[index]);
     }
     Ok(labels)
 }

@@ -272,9 +272,7 @@ pub fn emit_exit(
     let exits = key.exits.as_slice();
     match of.block.exit {
         Exit::Jump(to) => part(alloc, p, of, exits, 0, to),
-        Exit::Cond { test, taken, next } => {
-            either(alloc, p, of, exits, test, taken, next)
-        },
+        Exit::Cond { test, taken, next } => { either(alloc, p, of, exits, test, taken, next) },
         Exit::Way(target) => way(alloc, p, of, exits, target),
         Exit::Island { len } => native(p, exe, key, len),
     }

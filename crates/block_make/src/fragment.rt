@@ -5,6 +5,7 @@ ghost use Rattle.ia_encode.specs.Items.{AreValid, size_of_items};
 ghost use Rattle.block_make.specs.FragmentCode.{coded};
 ghost use Rattle.block_make.specs.FragmentItems.{items_of};
 ghost use Rattle.block_make.specs.Keys.{IsKey};
+ghost use Rattle.block_make.specs.Laws.{AreWords};
 
 use crate::assembly::{Assembled, assemble};
 use crate::exits::emit_exit;
@@ -81,6 +82,22 @@ impl<L> Fragment<L> {
     }
 }
 
+/// An address has 32 bits.
+fn note_word(address: u32)
+    ensures { address < 2 ^ 32 }
+{
+    let _word = address;
+}
+
+/// The addresses of exits have 32 bits.
+fn note_words(exits: &[(u32, u16)])
+    ensures { AreWords exits.now }
+{
+    for index in 0..exits.len() {
+        note_word(exits[index].0);
+    }
+}
+
 /// The items of a key's fragment. An error comes for want of memory.
 fn items_of(alloc: Global, exe: &Exe, key: &BlockKey) -> Result<Piece, AllocError>
     requires guest { IsGuest exe.now }
@@ -92,6 +109,7 @@ fn items_of(alloc: Global, exe: &Exe, key: &BlockKey) -> Result<Piece, AllocErro
 {
     round_trip();
     encoding_length();
+    note_words(key.exits.as_slice());
     let prepared = prepare(alloc, exe, key)?;
     let mut piece = Piece::new(alloc);
     emit_lines(&mut piece, &prepared, prepared.split.body.as_slice())?;
@@ -107,7 +125,8 @@ pub fn code_of(alloc: Global, exe: &Exe, key: &BlockKey) -> Result<Assembled, Al
     ensures { IfOk result (λ code. code ≡ coded exe.now key.now) }
 {
     let piece = items_of(alloc, exe, key)?;
-    assemble(alloc, &piece)
+    let code = assemble(alloc, &piece)?;
+    Ok(code)
 }
 
 /// Makes the fragment of a key: the code of its block's lines, the ways to its known exits, and the side exits to the original. That

@@ -5,12 +5,14 @@ mod assembly;
 mod choices;
 mod exits;
 mod fragment;
+mod laws;
 mod lines;
 mod moves;
 mod prepared;
 
 pub use assembly::{Assembled, assemble};
 pub use fragment::{Fix, Fragment, JUMP_SLOT, MAX_EXITS, make};
+pub use laws::fragments_valid;
 
 #[cfg(test)]
 mod tests;

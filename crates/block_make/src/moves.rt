@@ -97,12 +97,7 @@ fn live_moves(alloc: Global, of: &Prepared, live: Live) -> Result<Vec<PlaceMove>
 }
 
 /// Appends the moves of live registers. An error comes for want of memory.
-pub fn emit_moves(
-    alloc: Global,
-    p: &mut Piece,
-    of: &Prepared,
-    live: Live,
-) -> Result<(), AllocError>
+pub fn emit_moves(alloc: Global, p: &mut Piece, of: &Prepared, live: Live) -> Result<(), AllocError>
     requires { IsPrepared of.now }
     ensures { OnOk result (p.new ≡ p.old ++ moves_items (choice_in of.now) (is_live live)) }
 {

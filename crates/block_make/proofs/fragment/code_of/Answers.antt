@@ -4,4 +4,4 @@ use Rattle.block_make.proofs.fragment.code_of.Goals as goal
 
 pub returns : goal.returns
 unfolding coded
-returns c = ?
+returns c = c.in_ok-code.ensures ∙ ap code_of_items c.in_ok-piece.ensures.items

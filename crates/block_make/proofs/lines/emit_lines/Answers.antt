@@ -36,7 +36,7 @@ loop-index-preserved c =
     elim c.if-set-index.branch [
       | then-set-index+in_ok-emit_line w ↦
           line_taken home_of place (is_in c.args.set.now) of.block.lines i _ c.loop-index.p c.if-set-index.p l w.if-set-index.true c.loop-index.invariant
-          (w.p-is ∙ w.in_ok-emit_line.ensures
+          (w.p-is ∙ w.in_ok-emit_line.ensures.ok
           ∙ ap (λ (ps : List (Option Place)). c.loop-index.p ++ map item.Inst (line_code home_of (place_at ps) i w.line.result)) (c.as_slice-places.ensures.value ∙ q)
           ∙ ap (λ (x : Line). c.loop-index.p ++ map item.Inst (line_code home_of place i x)) w.line.ensures)
       | else-set-index w ↦

@@ -4,6 +4,7 @@ use Rattle.ssa_form.specs.declared.form.TheConstants.{REGISTERS}
 use Rattle.ssa_form.specs.declared.form.Val.{Val}
 use Rattle.ssa_form.specs.declared.form.Val.TheVariants as val
 use Rattle.par_moves.specs.declared.locations.Place.{Place}
+use Rattle.par_moves.specs.declared.locations.MoveSource.{MoveSource}
 use Rattle.par_moves.specs.declared.locations.PlaceMove.{PlaceMove}
 use Rattle.par_moves.specs.Homes.{home_of}
 use Rattle.emit_ops.specs.Placed.{place_at, IsHeld}
@@ -15,6 +16,12 @@ use Rattle.block_make.proofs.Splits.{IsWhole, whole, outs_held}
 use Rattle.block_make.proofs.Behind.{any_default, moves_left, move_taken, move_left}
 use Rattle.block_make.proofs.moves.live_moves.Goals as goal
 use Rattle.block_make.proofs.moves.live_moves.Goals.{then-is_moved+in_ok-push, else-is_moved}
+
+abbrev made : Place → MoveSource → PlaceMove
+made t f = record { to = t; from = f }
+
+same_items : (xs ys : List PlaceMove) → ys ≡ xs → ys ≡ xs
+same_items xs ys e = e
 
 pub source-requires : goal.source-requires
 source-requires c =
@@ -40,8 +47,14 @@ loop-register-preserved c =
     elim c.if-is_moved.branch [
       | then-is_moved+in_ok-push w ↦
           move_taken home_of place live of.block.outs v _ c.loop-register.moves.items c.if-is_moved.moves.items l (sym now ∙ w.if-is_moved.true) c.loop-register.invariant
-          ?
+          ((let m = w.moves-is in same_items w.push.new.self.items c.if-is_moved.moves.items cc)
+          ∙ w.in_ok-push.ensures.items
+          ∙ ap (λ (to : Place). c.loop-register.moves.items ++ made to w.source.result ∷ []) w.home.ensures.value
+          ∙ ap (λ (from : MoveSource). c.loop-register.moves.items ++ made (home_of v) from ∷ [])
+          (w.source.ensures.value
+          ∙ ap (λ (ps : List (Option Place)). held_by home_of (place_at ps) (get_or of.block.outs v (val.Param 0))) (w.as_slice.ensures.value ∙ c.requires.given)
+          ∙ ap (λ (x : Val). held_by home_of place x) d))
       | else-is_moved w ↦
           move_left home_of place live of.block.outs v _ c.loop-register.moves.items l (sym now ∙ w.if-is_moved.false) c.loop-register.invariant
-          ∙ ?
+          ∙ ap (λ (xs : List PlaceMove). xs ++ moves_left home_of place live of.block.outs (v + 1)) (let m = w.moves-is in same_items c.if-is_moved.moves.items c.loop-register.moves.items cc)
     ]
