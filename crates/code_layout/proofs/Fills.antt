@@ -27,7 +27,7 @@ drop_front [] x m k e = let s : m ≡ k = omega arith in ap (λ i. drop i x) s
 drop_front (y ∷ front) x m k e = let s : m ≡ suc (length front + k) = omega arith in ap (λ i. drop i (y ∷ (front ++ x))) s ∙ drop_front front x (length front + k) k refl
 
 -- a word put over bytes that follow others
-word_front : (front x : List ℕ) (m k w : ℕ) → m ≡ length front + k → with_word m w (front ++ x) ≡ front ++ with_word k w x
+pub word_front : (front x : List ℕ) (m k w : ℕ) → m ≡ length front + k → with_word m w (front ++ x) ≡ front ++ with_word k w x
 word_front front x m k w e =
     ap (λ l. l ++ (bytes_of 4 w ++ drop (m + 4) (front ++ x))) (take_front front x m k e)
     ∙ ap (λ l. (front ++ take k x) ++ (bytes_of 4 w ++ l)) (drop_front front x (m + 4) (k + 4) (omega arith))
@@ -70,7 +70,7 @@ module _ (address : ℕ → ℕ) where
       ∙ ap (filled address at (map (forth n) fs)) (word_front front x (n + f.at) f.at (distance (at + n + f.at + 4) (target_of address f)) (omega arith))
       ∙ filled_front at n fs front (put (at + n) f x) e
 
-  filled_append : (at : ℕ) (fs gs : List Fix) (x : List ℕ) → filled address at (fs ++ gs) x ≡ filled address at gs (filled address at fs x)
+  pub filled_append : (at : ℕ) (fs gs : List Fix) (x : List ℕ) → filled address at (fs ++ gs) x ≡ filled address at gs (filled address at fs x)
   filled_append at [] gs x = refl
   filled_append at (f ∷ fs) gs x = filled_append at fs gs (put at f x)
 

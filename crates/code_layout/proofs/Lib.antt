@@ -3,3 +3,7 @@ pub mod Fills
 pub mod Kept
 pub mod Whole
 pub mod Writable
+pub mod Labels
+pub mod Links
+pub mod Targets
+pub mod Chosen

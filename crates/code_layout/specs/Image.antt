@@ -1,6 +1,7 @@
 -- The file that is written for an original and edges: the recovered code, a private segment, and the original's segments at their
 -- addresses.
-use Rattle.std.specs.Prelude.{ℕ, ◌<◌, true, false, List, [], ◌∷◌, length}
+use Rattle.std.specs.Prelude.{◌≡◌, ℕ, ◌+◌, ◌-◌, ◌%◌, ◌^◌, ◌<◌, true, false, List, [], ◌∷◌, length}
+use Rattle.br_word.specs.Memory.{bytes_of}
 use Rattle.elf_read.specs.declared.exe.Segment.{Segment}
 use Rattle.elf_read.specs.declared.exe.Exe.{Exe}
 use Rattle.elf_write.specs.File.{file_of}
@@ -44,3 +45,9 @@ HasTooManyBlocks exe edges = MAX_BLOCKS < length (graph_of exe edges)
 -- more code than there is room for below the private segment
 abbrev pub IsTooLong : Exe → List Edge → Type 0
 IsTooLong exe edges = MAX_CODE < length (code_of exe edges)
+
+-- ---- without edges
+
+-- the code is one jump to the original's entry (SDM volume 2, JMP: E9 and the distance from its end)
+abbrev pub EmptyImage : Type 0
+EmptyImage = (exe : Exe) → code_of exe [] ≡ 0xE9 ∷ bytes_of 4 ((exe.entry + 2 ^ 32 - 0x01000005) % 2 ^ 32)

@@ -1,7 +1,10 @@
 -- A layout: fragments that were added one behind another, and their code once the distances between them are filled in.
 use Rattle.std.specs.Prelude.{◌≡◌, ℕ, ◌+◌, ◌≤◌, ◌<◌, ◌==◌, Bool, true, false, if◌then◌else◌, List, [], ◌∷◌, ◌++◌, length, take, drop, map, All}
+use Rattle.std.specs.List.Sorted.{IsStrictlyIncreasing}
 use Rattle.br_word.specs.Memory.{bytes_of}
 use Rattle.elf_read.specs.declared.exe.Exe.{Exe}
+use Rattle.elf_read.specs.Elf.{IsGuest}
+use Rattle.run_model.specs.Edges.{Edge}
 use Rattle.ia_encode.specs.Items.{distance}
 use Rattle.block_cut.specs.Transfers.{is_among}
 use Rattle.ssa_form.specs.declared.form.BlockKey.{BlockKey}
@@ -9,6 +12,7 @@ use Rattle.block_make.specs.declared.fragment.Fix.{Fix}
 use Rattle.block_make.specs.FragmentCode.{OpenCode, code_of_items, coded}
 use Rattle.code_layout.specs.declared.place.TheConstants.{CODE_START, MAX_CODE}
 use Rattle.code_layout.specs.declared.built.Built.{Built}
+use Rattle.code_layout.specs.Keys.{keys_of}
 use Rattle.code_layout.specs.Linked.{entry_items, code_of_keys, has_key}
 use Rattle.code_layout.specs.Image.{image_with}
 
@@ -118,3 +122,8 @@ pub record LayoutLinks : Type 0 where
   pub code : (exe : Exe) (keys : List BlockKey) → code_length (layout_of exe keys) ≤ MAX_CODE
       → layout_code (layout_of exe keys) ≡ code_of_keys exe keys
   pub length_is : (exe : Exe) (keys : List BlockKey) → length (code_of_keys exe keys) ≡ code_length (layout_of exe keys)
+
+-- The keys of a graph ascend by their starts, and their fragments make a whole layout: each known fix goes to the start of a key.
+pub record KeysAreWhole : Type 0 where
+  pub ascend : (exe : Exe) (edges : List Edge) → IsGuest exe → IsStrictlyIncreasing (map (λ (key : BlockKey). key.start) (keys_of exe edges))
+  pub whole : (exe : Exe) (edges : List Edge) → IsGuest exe → IsWhole (layout_of exe (keys_of exe edges))

@@ -1,0 +1,5 @@
+use Rattle.code_layout.proofs.Links.{code_links, length_links}
+use Rattle.code_layout.proofs.laws.layout_links.Goals as goal
+
+pub returns : goal.returns
+returns c = record { code = λ exe keys l. code_links exe keys; length_is = length_links }
