@@ -1,5 +1,5 @@
 -- The ends of fragments lead where they should.
-use Rattle.std.proofs.Common.{◌≡◌, ℕ, ◌+◌, ◌-◌, ◌<◌, ◌≤◌, Bool, true, false, List, [], ◌∷◌, ◌++◌, length, Some, refl, sym, ap, ◌∙◌, subst, arith, ⊎_elim, ◌⊎◌, inl, inr}
+use Rattle.std.proofs.Common.{◌≡◌, ℕ, ◌+◌, ◌-◌, ◌*◌, ◌<◌, ◌≤◌, Bool, true, false, List, [], ◌∷◌, ◌++◌, length, Some, refl, sym, ap, ◌∙◌, subst, arith, ⊎_elim, ◌⊎◌, inl, inr}
 use Rattle.std.specs.Prelude.{nat_eq, if◌then◌else◌}
 use Rattle.std.proofs.lemmas.Bool.{cases_lt, true≢false, eqb-true}
 use Rattle.br_word.specs.Memory.{Region}
@@ -14,7 +14,7 @@ use Rattle.ia_encode.specs.declared.item.Item.TheVariants.{Inst as Put, Byte, Ju
 use Rattle.ia_encode.specs.Items.{size_of_items, size_of_jump, Stands}
 use Rattle.sim_runs.specs.Forward.{after}
 use Rattle.sim_runs.specs.Laws.{Leads}
-use Rattle.sim_runs.specs.Passes.{Gets, StandsFrom, Passes, count_of, cond_items, chain, tails, is_in}
+use Rattle.sim_runs.specs.Passes.{Gets, StandsFrom, Passes, PassesIn, count_of, cond_items, chain, tails, is_in}
 use Rattle.sim_runs.proofs.Runs.{run_on}
 
 pub gets_then : (P Q : State → Type 0) (j k m n : ℕ) (t : State) (cs : List ℕ) → Gets P j m t cs → ((u : State) (ds : List ℕ) → P u → Gets Q k n u ds) → Gets Q (j + k) (m + n) t cs
@@ -111,42 +111,40 @@ module _ (dest : Dest → ℕ) (code : Region) where
   count_cut (Label l ∷ is) js = count_cut is js
 
   -- the body, and then the exit
-  pub body_then : (is js : List Item) (P B : ℕ → State → Type 0) (Q : State → Type 0) → ((at : ℕ) (u : State) (cs : List ℕ) → StandsFrom dest code at is → P at u → Gets (B (at + size_of_items is)) 0 (count_of is) u cs) → Passes dest code js B Q → Passes dest code (is ++ js) P Q
-  body_then is js P B Q body exit at u cs s p =
+  pub body_then : (is js : List Item) (n : ℕ) (P B : ℕ → State → Type 0) (Q : State → Type 0) → ((at : ℕ) (u : State) (cs : List ℕ) → StandsFrom dest code at is → P at u → Gets (B (at + size_of_items is)) 0 (count_of is) u cs) → PassesIn dest code js n B Q → PassesIn dest code (is ++ js) (count_of is + n) P Q
+  body_then is js n P B Q body exit at u cs s p =
       let c = stands_cut is js at s in
-      let n = count_cut is js in gets_map Q Q 1 1 (count_of is + count_of js) _ u cs (omega arith) (omega (arith, n)) (λ u h. h) (gets_then (B (at + size_of_items is)) Q 0 1 (count_of is) (count_of js) u cs (body at u cs c.0 p) (λ v ds b. exit (at + size_of_items is) v ds c.1 b))
+      gets_then (B (at + size_of_items is)) Q 0 1 (count_of is) n u cs (body at u cs c.0 p) (λ v ds b. exit (at + size_of_items is) v ds c.1 b)
 
   module _ (Body Aim : ℕ → State → Type 0) (End : ℕ → State → Type 0) where
     -- an exit by a condition
     pub cond_serves : (asks next taken : List Item) (l y z : ℕ) (t : Bool) →
         ((at : ℕ) (u : State) (cs : List ℕ) → StandsFrom dest code at (asks ++ (Jump (Some 5) (ToLabel l) ∷ [])) → Body at u → Gets (Body (if t then dest (ToLabel l) else at + size_of_items asks + 6)) 0 (count_of asks + 1) u cs) →
-        Passes dest code next Body (End z) → Passes dest code taken Body (End y) → Passes dest code (cond_items asks l next taken) Body (End (if t then y else z))
-    cond_serves asks next taken l y z t test on off at u cs s b =
+        Passes dest code next Body (End z) → Passes dest code taken Body (End y) → (n : ℕ) → count_of asks + 1 + count_of next ≤ n → count_of asks + 1 + count_of taken ≤ n →
+        PassesIn dest code (cond_items asks l next taken) n Body (End (if t then y else z))
+    cond_serves asks next taken l y z t test on off n few many at u cs s b =
         let c = stands_cut asks (Jump (Some 5) (ToLabel l) ∷ (next ++ (Label l ∷ taken))) at s in
         let j = stands_cut (Jump (Some 5) (ToLabel l) ∷ []) (next ++ (Label l ∷ taken)) (at + size_of_items asks) c.1 in
         let d = stands_cut next (Label l ∷ taken) (at + size_of_items asks + 6) j.1 in
         let f = label_cut l taken (at + size_of_items asks + 6 + size_of_items next) d.1 in
-        let n = count_cut asks (Jump (Some 5) (ToLabel l) ∷ (next ++ (Label l ∷ taken))) in
-        let m = count_cut next (Label l ∷ taken) in
         let st = stands_join asks (Jump (Some 5) (ToLabel l) ∷ []) at c.0 j.0 in
-        go t (test at u cs st b) d.0 f.0 f.1 n m
+        go t (test at u cs st b) d.0 f.0 f.1
       where
-        go : (t : Bool) → Gets (Body (if t then dest (ToLabel l) else at + size_of_items asks + 6)) 0 (count_of asks + 1) u cs → StandsFrom dest code (at + size_of_items asks + 6) next → at + size_of_items asks + 6 + size_of_items next ≡ dest (ToLabel l) → StandsFrom dest code (at + size_of_items asks + 6 + size_of_items next) taken → count_of (cond_items asks l next taken) ≡ count_of asks + (1 + count_of (next ++ (Label l ∷ taken))) → count_of (next ++ (Label l ∷ taken)) ≡ count_of next + count_of taken → Gets (End (if t then y else z)) 1 (count_of (cond_items asks l next taken)) u cs
-        go true g sn at_l sy n m = gets_map (End y) (End y) 1 1 (count_of asks + 1 + count_of taken) _ u cs (omega arith) (omega (arith, n, m)) (λ u h. h) (gets_then _ (End y) 0 1 _ _ u cs g (λ v ds q. off (dest (ToLabel l)) v ds (subst (λ a. StandsFrom dest code a taken) at_l sy) q))
-        go false g sn at_l sy n m = gets_map (End z) (End z) 1 1 (count_of asks + 1 + count_of next) _ u cs (omega arith) (omega (arith, n, m)) (λ u h. h) (gets_then _ (End z) 0 1 _ _ u cs g (λ v ds q. on (at + size_of_items asks + 6) v ds sn q))
+        go : (t : Bool) → Gets (Body (if t then dest (ToLabel l) else at + size_of_items asks + 6)) 0 (count_of asks + 1) u cs → StandsFrom dest code (at + size_of_items asks + 6) next → at + size_of_items asks + 6 + size_of_items next ≡ dest (ToLabel l) → StandsFrom dest code (at + size_of_items asks + 6 + size_of_items next) taken → Gets (End (if t then y else z)) 1 n u cs
+        go true g sn at_l sy = gets_map (End y) (End y) 1 1 (count_of asks + 1 + count_of taken) n u cs (omega arith) many (λ u h. h) (gets_then _ (End y) 0 1 _ _ u cs g (λ v ds q. off (dest (ToLabel l)) v ds (subst (λ a. StandsFrom dest code a taken) at_l sy) q))
+        go false g sn at_l sy = gets_map (End z) (End z) 1 1 (count_of asks + 1 + count_of next) n u cs (omega arith) few (λ u h. h) (gets_then _ (End z) 0 1 _ _ u cs g (λ v ds q. on (at + size_of_items asks + 6) v ds sn q))
 
     -- the tail of a known target stands at its label
-    tail_stands : (tail : ℕ → List Item) (label : ℕ → ℕ) (ys : List ℕ) (at v : ℕ) → is_in v ys ≡ true → StandsFrom dest code at (tails tail label ys) → StandsFrom dest code (dest (ToLabel (label v))) (tail v) × (count_of (tail v) ≤ count_of (tails tail label ys))
+    tail_stands : (tail : ℕ → List Item) (label : ℕ → ℕ) (ys : List ℕ) (at v : ℕ) → is_in v ys ≡ true → StandsFrom dest code at (tails tail label ys) → StandsFrom dest code (dest (ToLabel (label v))) (tail v)
     tail_stands tail label [] at v i s = absurd (true≢false (sym i))
     tail_stands tail label (y ∷ ys) at v i s =
         let f = label_cut (label y) (tail y ++ tails tail label ys) at s in
         let c = stands_cut (tail y) (tails tail label ys) at f.1 in
-        let n = count_cut (tail y) (tails tail label ys) in
-        go (nat_eq v y) refl i (subst (λ a. StandsFrom dest code a (tail y)) f.0 c.0) n (λ i. tail_stands tail label ys (at + size_of_items (tail y)) v i c.1)
+        go (nat_eq v y) refl i (subst (λ a. StandsFrom dest code a (tail y)) f.0 c.0) (λ i. tail_stands tail label ys (at + size_of_items (tail y)) v i c.1)
       where
-        go : (b : Bool) → nat_eq v y ≡ b → (if b then true else is_in v ys) ≡ true → StandsFrom dest code (dest (ToLabel (label y))) (tail y) → count_of (tails tail label (y ∷ ys)) ≡ count_of (tail y) + count_of (tails tail label ys) → (is_in v ys ≡ true → StandsFrom dest code (dest (ToLabel (label v))) (tail v) × (count_of (tail v) ≤ count_of (tails tail label ys))) → StandsFrom dest code (dest (ToLabel (label v))) (tail v) × (count_of (tail v) ≤ count_of (tails tail label (y ∷ ys)))
-        go true q i s n r = let z = sym (eqb-true v y q) in subst (λ v. StandsFrom dest code (dest (ToLabel (label v))) (tail v) × (count_of (tail v) ≤ count_of (tails tail label (y ∷ ys)))) z (s, omega (arith, n))
-        go false q i s n r = let k = r i in (k.0, omega (arith, n, k.1))
+        go : (b : Bool) → nat_eq v y ≡ b → (if b then true else is_in v ys) ≡ true → StandsFrom dest code (dest (ToLabel (label y))) (tail y) → (is_in v ys ≡ true → StandsFrom dest code (dest (ToLabel (label v))) (tail v)) → StandsFrom dest code (dest (ToLabel (label v))) (tail v)
+        go true q i s r = let z = sym (eqb-true v y q) in subst (λ v. StandsFrom dest code (dest (ToLabel (label v))) (tail v)) z s
+        go false q i s r = r i
 
     -- the target is this one, or it is not
     abbrev Met : Bool → (ℕ → State → Type 0) → ℕ → ℕ → State → Type 0
@@ -174,21 +172,28 @@ module _ (dest : Dest → ℕ) (code : Region) where
           moved x n (inl k) = inl (rw n (k.0), k.1)
           moved x n (inr k) = inr (rw n (k.0), let z : at + length (canonical (compare y)) + 6 + size_of_items (chain compare label ys) ≡ at + (length (canonical (compare y)) + (6 + size_of_items (chain compare label ys))) = omega arith in subst (λ a. Aim a x) z k.1)
 
+      chain_count : (ys : List ℕ) → count_of (chain compare label ys) ≡ 2 * length ys
+      chain_count [] = refl
+      chain_count (y ∷ ys) = let q = chain_count ys in omega (arith, q)
+
       -- an exit by a way: aim, compare, stub, tails
       pub way_serves : (aim stub : List Item) (tail : ℕ → List Item) (ys : List ℕ) →
           ((at : ℕ) (u : State) (cs : List ℕ) → StandsFrom dest code at aim → Body at u → Gets (Aim (at + size_of_items aim)) 0 (count_of aim) u cs) →
           (is_in v ys ≡ false → Passes dest code stub Aim (End v)) →
           (is_in v ys ≡ true → Passes dest code (tail v) Body (End v)) →
-          Passes dest code (aim ++ (chain compare label ys ++ (stub ++ tails tail label ys))) Body (End v)
-      way_serves aim stub tail ys aims off on at u cs s b =
+          (n : ℕ) → count_of aim + 2 * length ys + count_of stub ≤ n → (is_in v ys ≡ true → count_of aim + 2 * length ys + count_of (tail v) ≤ n) →
+          PassesIn dest code (aim ++ (chain compare label ys ++ (stub ++ tails tail label ys))) n Body (End v)
+      way_serves aim stub tail ys aims off on n few many at u cs s b =
           let c = stands_cut aim (chain compare label ys ++ (stub ++ tails tail label ys)) at s in
           let d = stands_cut (chain compare label ys) (stub ++ tails tail label ys) (at + size_of_items aim) c.1 in
           let f = stands_cut stub (tails tail label ys) (at + size_of_items aim + size_of_items (chain compare label ys)) d.1 in
-          let n1 = count_cut aim (chain compare label ys ++ (stub ++ tails tail label ys)) in
-          let n2 = count_cut (chain compare label ys) (stub ++ tails tail label ys) in
-          let n3 = count_cut stub (tails tail label ys) in
-          gets_map (End v) (End v) 1 1 (count_of aim + (count_of (chain compare label ys) + (count_of stub + count_of (tails tail label ys)))) _ u cs (omega arith) (omega (arith, n1, n2, n3)) (λ w h. h)
-          (gets_then (Aim (at + size_of_items aim)) (End v) 0 1 _ _ u cs (aims at u cs c.0 b) (λ w ds a. gets_then _ (End v) 0 1 _ _ w ds (chain_leads ys (at + size_of_items aim) w ds d.0 a) (λ x fs m. ⊎_elim
-          (λ (h : (is_in v ys ≡ true) × Body (dest (ToLabel (label v))) x). let t = tail_stands tail label ys _ v h.0 f.1 in gets_map (End v) (End v) 1 1 (count_of (tail v)) _ x fs (omega arith) (omega (arith, t.1)) (λ w h. h) (on h.0 (dest (ToLabel (label v))) x fs t.0 h.1))
-          (λ (h : (is_in v ys ≡ false) × Aim (at + size_of_items aim + size_of_items (chain compare label ys)) x). gets_map (End v) (End v) 1 1 (count_of stub) _ x fs (omega arith) (omega arith) (λ w h. h) (off h.0 _ x fs f.0 h.1))
-          m)))
+          let m = chain_count ys in
+          let front : ℕ = count_of aim + count_of (chain compare label ys) in
+          let behind : ℕ = at + size_of_items aim + size_of_items (chain compare label ys) in
+          gets_map (End v) (End v) 1 1 (front + (n - front)) n u cs (omega arith) (omega (arith, few, m)) (λ w h. h)
+          (gets_then (Met (is_in v ys) Body (dest (ToLabel (label v))) behind) (End v) 0 1 front (n - front) u cs
+          (gets_then (Aim (at + size_of_items aim)) (Met (is_in v ys) Body (dest (ToLabel (label v))) behind) 0 0 (count_of aim) (count_of (chain compare label ys)) u cs (aims at u cs c.0 b) (λ w ds a. chain_leads ys (at + size_of_items aim) w ds d.0 a))
+          (λ x fs k. ⊎_elim
+          (λ (h : (is_in v ys ≡ true) × Body (dest (ToLabel (label v))) x). gets_map (End v) (End v) 1 1 (count_of (tail v)) (n - front) x fs (omega arith) (let q = many h.0 in omega (arith, q, m)) (λ w h. h) (on h.0 (dest (ToLabel (label v))) x fs (tail_stands tail label ys _ v h.0 f.1) h.1))
+          (λ (h : (is_in v ys ≡ false) × Aim behind x). gets_map (End v) (End v) 1 1 (count_of stub) (n - front) x fs (omega arith) (omega (arith, few, m)) (λ w h. h) (off h.0 behind x fs f.0 h.1))
+          k))

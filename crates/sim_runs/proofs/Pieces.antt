@@ -1,5 +1,5 @@
 -- A fragment whose pieces do what they have to leads on as the simulation asks.
-use Rattle.std.proofs.Common.{◌≡◌, ℕ, ◌+◌, ◌<◌, Bool, true, false, cond, ◌||◌, List, [], ◌∷◌, ◌++◌, Some, refl, sym, ap, ◌∙◌, subst, arith, ⊎_elim, ◌⊎◌, inl, inr}
+use Rattle.std.proofs.Common.{◌≡◌, ℕ, ◌+◌, ◌<◌, ◌≤◌, Bool, true, false, cond, ◌||◌, List, [], ◌∷◌, ◌++◌, Some, refl, sym, ap, ◌∙◌, subst, arith, ⊎_elim, ◌⊎◌, inl, inr}
 use Rattle.std.specs.Prelude.{◌==◌, nat_eq, not, if◌then◌else◌}
 use Rattle.std.proofs.lemmas.Bool.{cases_Bool, eq-eqb}
 use Rattle.br_word.specs.Memory.{HoldBytes}
@@ -7,6 +7,7 @@ use Rattle.br_word.specs.State.{State, Flag, CF, PF, ZF, SF, OF}
 use Rattle.elf_read.specs.declared.exe.Exe.{Exe}
 use Rattle.ia_encode.specs.declared.item.Dest.{Dest}
 use Rattle.ia_encode.specs.declared.item.Dest.TheVariants as dests
+use Rattle.ia_encode.specs.declared.item.Item.{Item}
 use Rattle.ia_encode.specs.declared.item.Item.TheVariants as item
 use Rattle.ia_encode.specs.Items.{size_of_items}
 use Rattle.block_cut.specs.Transfers.{is_among}
@@ -26,8 +27,8 @@ use Rattle.sim_runs.specs.Coding.{SameKind, Coding, Serves}
 use Rattle.sim_runs.specs.WholeBlock.{IsWay}
 use Rattle.sim_runs.specs.Recovered.{Coded, knows_of, plan_of}
 use Rattle.sim_runs.specs.Promised.{exits_of}
-use Rattle.sim_runs.specs.Passes.{Gets, StandsFrom, Passes, count_of, is_in}
-use Rattle.sim_runs.specs.Pieces.{Pieces, part_of, exit_items, Held, Tailed, Aimed, is_cond, is_way, is_out, test_of, PiecesRun}
+use Rattle.sim_runs.specs.Passes.{Gets, StandsFrom, Passes, PassesIn, count_of, is_in}
+use Rattle.sim_runs.specs.Pieces.{Pieces, part_of, exit_items, ExitWithin, Held, Tailed, Aimed, is_cond, is_way, is_out, test_of, PiecesRun}
 use Rattle.sim_runs.proofs.Pass.{gets_map, body_then, cond_serves, way_serves}
 use Rattle.sim_runs.proofs.Coding.{body_env, body_memory, body_exit, whole_env, whole_memory}
 use Rattle.sim_runs.proofs.Ends.{known_outs, all_outs, unknown_taken}
@@ -85,12 +86,15 @@ module _ (dest : Dest → ℕ) (exe : Exe) (edges : List Edge) (c : Coded) (x : 
         go true h = λ at u cs s q. gets_map (Tailed c k env a y) (End y) 1 1 _ _ u cs (omega arith) (omega arith) (λ w t. inl (h, t)) (run.tail y h at u cs s q)
         go false h = λ at u cs s q. gets_map (Restored plan y (outs_of k.block.outs whole) whole.mem a) (End y) 1 1 _ _ u cs (omega arith) (omega arith) (λ w t. inr (h, t)) (run.stub l y out h at u cs s q)
 
-    by_exit : (w : Exit) → k.block.exit ≡ w → Passes dest c.code (exit_items knows ys pieces w) (Held c k env a) (End (exit_of w env))
-    by_exit (Jump to) q = part 0 to (ap (λ w. is_out w to) q ∙ eq-eqb to to refl)
-    by_exit (Cond t taken next) q =
+    within : (is : List Item) (n : ℕ) (Q : State → Type 0) → count_of is ≤ n → Passes dest c.code is (Held c k env a) Q → PassesIn dest c.code is n (Held c k env a) Q
+    within is n Q few g at u cs s h = gets_map Q Q 1 1 (count_of is) n u cs (omega arith) few (λ w h. h) (g at u cs s h)
+
+    by_exit : (w : Exit) → k.block.exit ≡ w → (n : ℕ) → ExitWithin knows ys pieces w n → PassesIn dest c.code (exit_items knows ys pieces w) n (Held c k env a) (End (exit_of w env))
+    by_exit (Jump to) q n few = within (part_of knows pieces 0 to) n (End to) few (part 0 to (ap (λ w. is_out w to) q ∙ eq-eqb to to refl))
+    by_exit (Cond t taken next) q n few =
         let ask = subst (λ w. (at : ℕ) (u : State) (cs : List ℕ) → StandsFrom dest c.code at (pieces.ask ++ (item.Jump (Some 5) (dests.Label pieces.other) ∷ [])) → Held c k env a at u → Gets (Held c k env a (if test_of w env then dest (dests.Label pieces.other) else at + size_of_items pieces.ask + 6)) 0 (count_of pieces.ask + 1) u cs) q (run.ask (ap is_cond q)) in
-        subst (λ y. Passes dest c.code (exit_items knows ys pieces (Cond t taken next)) (Held c k env a) (End y)) (turned (value env t == 0))
-        (cond_serves dest c.code (Held c k env a) (λ at u. Aimed c k env a 0 at u) End pieces.ask (part_of knows pieces 0 next) (part_of knows pieces 1 taken) pieces.other taken next (not (value env t == 0)) ask (part 0 next (ap (λ w. is_out w next) q ∙ later (next == taken) (eq-eqb next next refl))) (part 1 taken (ap (λ w. is_out w taken) q ∙ ap (λ b. b || (taken == next)) (eq-eqb taken taken refl))))
+        subst (λ y. PassesIn dest c.code (exit_items knows ys pieces (Cond t taken next)) n (Held c k env a) (End y)) (turned (value env t == 0))
+        (cond_serves dest c.code (Held c k env a) (λ at u. Aimed c k env a 0 at u) End pieces.ask (part_of knows pieces 0 next) (part_of knows pieces 1 taken) pieces.other taken next (not (value env t == 0)) ask (part 0 next (ap (λ w. is_out w next) q ∙ later (next == taken) (eq-eqb next next refl))) (part 1 taken (ap (λ w. is_out w taken) q ∙ ap (λ b. b || (taken == next)) (eq-eqb taken taken refl))) n few.0 few.1)
       where
         turned : (b : Bool) → (if not b then taken else next) ≡ cond b next taken
         turned true = refl
@@ -99,14 +103,14 @@ module _ (dest : Dest → ℕ) (exe : Exe) (edges : List Edge) (c : Coded) (x : 
         later : (b : Bool) → (next == next) ≡ true → (b || (next == next)) ≡ true
         later true h = refl
         later false h = h
-    by_exit (Way v) q =
+    by_exit (Way v) q n few =
         let is : k.block.exit ≡ Way v = q in
         let z : exit_of k.block.exit env ≡ value env v = ap (λ w. exit_of w env) q in
-        subst (λ y. Passes dest c.code (exit_items knows ys pieces (Way v)) (Held c k env a) (End y)) z
+        subst (λ y. PassesIn dest c.code (exit_items knows ys pieces (Way v)) n (Held c k env a) (End y)) z
         (way_serves dest c.code (Held c k env a) (Aimed c k env a (exit_of k.block.exit env)) End pieces.compare pieces.label (exit_of k.block.exit env) (run.meets (ap is_way q)) pieces.aim pieces.way_stub pieces.tail ys (run.aim (ap is_way q))
         (λ n. let h : knows (exit_of k.block.exit env) ≡ false = sym (in_among (exit_of k.block.exit env) ys) ∙ n in λ at u cs s q. gets_map (Restored plan (exit_of k.block.exit env) (outs_of k.block.outs whole) whole.mem a) (End (exit_of k.block.exit env)) 1 1 _ _ u cs (omega arith) (omega arith) (λ w t. inr (h, t)) (run.way_stub (ap is_way is) h at u cs s q))
-        (λ n. let h : knows (exit_of k.block.exit env) ≡ true = sym (in_among (exit_of k.block.exit env) ys) ∙ n in λ at u cs s q. gets_map (Tailed c k env a (exit_of k.block.exit env)) (End (exit_of k.block.exit env)) 1 1 _ _ u cs (omega arith) (omega arith) (λ w t. inl (h, t)) (run.tail (exit_of k.block.exit env) h at u cs s q)))
-    by_exit (Island len) q = absurd (no_island (lift_of exe x).exit len (subst (SameKind (lift_of exe x).exit) q serves.kind))
+        (λ n. let h : knows (exit_of k.block.exit env) ≡ true = sym (in_among (exit_of k.block.exit env) ys) ∙ n in λ at u cs s q. gets_map (Tailed c k env a (exit_of k.block.exit env)) (End (exit_of k.block.exit env)) 1 1 _ _ u cs (omega arith) (omega arith) (λ w t. inl (h, t)) (run.tail (exit_of k.block.exit env) h at u cs s q)) n few.0 (few.1 (exit_of k.block.exit env)))
+    by_exit (Island len) q n few = absurd (no_island (lift_of exe x).exit len (subst (SameKind (lift_of exe x).exit) q serves.kind))
 
     way : IsWay (lift_of exe x).exit
     way = kind_way (lift_of exe x).exit k.block.exit serves.kind
@@ -163,9 +167,9 @@ module _ (dest : Dest → ℕ) (exe : Exe) (edges : List Edge) (c : Coded) (x : 
       }
 
       -- the whole fragment
-      pub pieces_pass : Passes dest c.code (pieces.body ++ exit_items knows ys pieces k.block.exit) (λ at u. Sees c.code u a × (u.eip ≡ at)) (λ u. Arrives plan x p a u ⊎ Leaves plan x p a u)
-      pieces_pass at u cs s h =
+      pub pieces_pass : (n : ℕ) → ExitWithin knows ys pieces k.block.exit n → PassesIn dest c.code (pieces.body ++ exit_items knows ys pieces k.block.exit) (count_of pieces.body + n) (λ at u. Sees c.code u a × (u.eip ≡ at)) (λ u. Arrives plan x p a u ⊎ Leaves plan x p a u)
+      pieces_pass n few at u cs s h =
           let to : exit_of k.block.exit env ≡ taken = body_exit c.home (c.live x) (lift_of exe x) (exits_of exe edges c x) k serves p (λ v. a.cell (c.home v)) a.outer small bytes allowed homes in
-          let g = body_then dest c.code pieces.body (exit_items knows ys pieces k.block.exit) (λ at u. Sees c.code u a × (u.eip ≡ at)) (Held c k env a) (End (exit_of k.block.exit env)) (λ at u cs s h. run.body at u cs s h.0 h.1) (by_exit k.block.exit refl) at u cs s h in
+          let g = body_then dest c.code pieces.body (exit_items knows ys pieces k.block.exit) n (λ at u. Sees c.code u a × (u.eip ≡ at)) (Held c k env a) (End (exit_of k.block.exit env)) (λ at u cs s h. run.body at u cs s h.0 h.1) (by_exit k.block.exit refl n few) at u cs s h in
           gets_map (End (exit_of k.block.exit env)) (λ u. Arrives plan x p a u ⊎ Leaves plan x p a u) 1 1 _ _ u cs (omega arith) (omega arith)
           (λ w d. ⊎_elim (λ (t : (knows taken ≡ true) × Tailed c k env a taken w). inl (arrives w t.0 t.1)) (λ (t : (knows taken ≡ false) × Restored plan taken (outs_of k.block.outs whole) whole.mem a w). inr (leaves w t.0 t.1)) (subst (λ y. End y w) to d)) g

@@ -31,9 +31,13 @@ count_of (item.Byte b ∷ is) = 1 + count_of is
 count_of (item.Jump cond to ∷ is) = 1 + count_of is
 count_of (item.Label m ∷ is) = count_of is
 
--- wherever the items stand, they lead from P at that place to Q, within as many steps as they have instructions
+-- wherever the items stand, they lead from P at that place to Q, within so many steps
+abbrev pub PassesIn : (Dest → ℕ) → Region → List Item → ℕ → (ℕ → State → Type 0) → (State → Type 0) → Type 0
+PassesIn dest code is n P Q = (at : ℕ) (u : State) (cs : List ℕ) → StandsFrom dest code at is → P at u → Gets Q 1 n u cs
+
+-- within as many steps as they have instructions
 abbrev pub Passes : (Dest → ℕ) → Region → List Item → (ℕ → State → Type 0) → (State → Type 0) → Type 0
-Passes dest code is P Q = (at : ℕ) (u : State) (cs : List ℕ) → StandsFrom dest code at is → P at u → Gets Q 1 (count_of is) u cs
+Passes dest code is P Q = PassesIn dest code is (count_of is) P Q
 
 -- a condition: the jump to the taken part where ZF is clear, the part of next, and the part of taken (SDM volume 2, JNZ)
 abbrev pub cond_items : List Item → ℕ → List Item → List Item → List Item

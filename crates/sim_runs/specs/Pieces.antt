@@ -1,5 +1,5 @@
 -- The pieces of a fragment, what each has to do, and fragments that are made of such pieces.
-use Rattle.std.specs.Prelude.{◌≡◌, ℕ, ◌+◌, ◌<◌, Bool, true, false, not, nat_eq, ◌==◌, ◌||◌, if◌then◌else◌, List, [], ◌∷◌}
+use Rattle.std.specs.Prelude.{◌≡◌, ℕ, ◌+◌, ◌*◌, ◌<◌, ◌≤◌, Bool, true, false, not, nat_eq, ◌==◌, ◌||◌, if◌then◌else◌, List, [], ◌∷◌}
 use Rattle.std.specs.Prelude.{◌++◌, length, get_or, Some, ◌⊎◌}
 use Rattle.br_word.specs.Memory.{Region}
 use Rattle.br_word.specs.State.{State}
@@ -27,7 +27,7 @@ use Rattle.emit_ops.specs.Sequences.{kept}
 use Rattle.sim_runs.specs.Coding.{Coding, NamedLater}
 use Rattle.sim_runs.specs.Recovered.{Coded, is_island_end, is_start_of, knows_of, plan_of}
 use Rattle.sim_runs.specs.Promised.{ServesAt, Runs, FragmentRuns}
-use Rattle.sim_runs.specs.Passes.{Gets, StandsFrom, Passes, count_of, cond_items, chain, tails}
+use Rattle.sim_runs.specs.Passes.{Gets, StandsFrom, Passes, count_of, cond_items, chain, tails, is_in}
 
 -- what a fragment is made of
 pub record Pieces : Type 0 where
@@ -54,6 +54,16 @@ exit_items knows ys k (Jump to) = part_of knows k 0 to
 exit_items knows ys k (Cond t taken next) = cond_items k.ask k.other (part_of knows k 0 next) (part_of knows k 1 taken)
 exit_items knows ys k (Way v) = k.aim ++ (chain k.compare k.label ys ++ (k.way_stub ++ tails k.tail k.label ys))
 exit_items knows ys k (Island len) = []
+
+-- each way through an exit has at most so many instructions
+abbrev pub ExitWithin : (ℕ → Bool) → List ℕ → Pieces → Exit → ℕ → Type 0
+ExitWithin knows ys k (Jump to) n = count_of (part_of knows k 0 to) ≤ n
+ExitWithin knows ys k (Cond t taken next) n =
+    (count_of k.ask + 1 + count_of (part_of knows k 0 next) ≤ n) × (count_of k.ask + 1 + count_of (part_of knows k 1 taken) ≤ n)
+ExitWithin knows ys k (Way v) n =
+    (count_of k.aim + 2 * length ys + count_of k.way_stub ≤ n)
+    × ((y : ℕ) → is_in y ys ≡ true → count_of k.aim + 2 * length ys + count_of (k.tail y) ≤ n)
+ExitWithin knows ys k (Island len) n = Unit {0}
 
 -- after the body, and after the sunk lines behind it
 abbrev pub body_end : Coding → (ℕ → ℕ) → List Region → Env
@@ -177,7 +187,22 @@ pub record FragmentsMade (exe : Exe) (edges : List Edge) (c : Coded) (coding : �
       (coding x) (pieces x) (knows_of exe edges x) a
       (body_end (coding x) (λ v. a.cell (c.home v)) a.outer) (whole_end (coding x) (λ v. a.cell (c.home v)) a.outer)
 
--- then they run, each within as many steps as the code has bytes
-abbrev pub FragmentsRun : Type 0
-FragmentsRun = (exe : Exe) (edges : List Edge) (c : Coded) (coding : ℕ → Coding)
-    → FragmentsMade exe edges c coding → FragmentRuns exe edges c coding (length c.code.bytes)
+-- each way through a fragment has at most so many instructions
+pub record PathWithin (exe : Exe) (edges : List Edge) (k : Coding) (pieces : Pieces) (x high : ℕ) : Type 0 where
+  pub exit : ℕ
+  pub ways : ExitWithin (knows_of exe edges x) (known_of exe (counting exe edges) x) pieces k.block.exit exit
+  pub fits : count_of pieces.body + exit ≤ high
+
+-- of each fragment
+abbrev pub PathsWithin : (exe : Exe) (edges : List Edge) (c : Coded) (coding : ℕ → Coding)
+    → FragmentsMade exe edges c coding → ℕ → Type 0
+PathsWithin exe edges c coding made high = (x : ℕ) → is_start_of exe edges x ≡ true → is_island_end (block_of exe x).end ≡ false
+    → PathWithin exe edges (coding x) (made.pieces x) x high
+
+-- Then they run, each within as many steps as its longest way has instructions, so within as many as the code has bytes.
+pub record FragmentsRun : Type 0 where
+  pub by_paths : (exe : Exe) (edges : List Edge) (c : Coded) (coding : ℕ → Coding)
+      → (made : FragmentsMade exe edges c coding) → (high : ℕ) → PathsWithin exe edges c coding made high
+      → FragmentRuns exe edges c coding high
+  pub by_length : (exe : Exe) (edges : List Edge) (c : Coded) (coding : ℕ → Coding)
+      → FragmentsMade exe edges c coding → FragmentRuns exe edges c coding (length c.code.bytes)

@@ -5,8 +5,8 @@ ghost use Rattle.sim_runs.specs.WholeBlock.{AllLinesServe};
 use ia_decode::encoding_length;
 use ia_encode::{direct_lengths, items_stand, round_trip};
 
-/// Fragments that are linked in the code, and whose pieces do what they have to, run as the simulation asks,
-/// each within as many steps as the code has bytes.
+/// Fragments that are linked in the code, and whose pieces do what they have to, run as the simulation asks, each within as many
+/// steps as its longest way has instructions, and so within as many as the code has bytes.
 pub fn fragments_run()
     ensures { FragmentsRun }
 {
