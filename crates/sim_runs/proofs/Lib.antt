@@ -16,7 +16,7 @@ mod Joined
 mod Lines
 mod Coding
 mod Ends
-mod Pass
+pub mod Pass
 mod Pieces
 mod Linked
 mod WholeBlock

@@ -54,7 +54,7 @@ gets_leads P n t cs g = record { steps = g.steps; going = omega (arith, g.enough
 
 module _ (dest : Dest → ℕ) (code : Region) where
   -- items that stand one behind the other
-  cut : (is js : List Item) (at to : ℕ) → Stands dest code at (is ++ js) to → StandsFrom dest code at is × Stands dest code (at + size_of_items is) js to
+  pub cut : (is js : List Item) (at to : ℕ) → Stands dest code at (is ++ js) to → StandsFrom dest code at is × Stands dest code (at + size_of_items is) js to
   cut [] js at to s = (omega arith, let z : at ≡ at + 0 = omega arith in subst (λ a. Stands dest code a js to) z s)
   cut (Put i ∷ is) js at to s =
       let r = cut is js (at + length (canonical i)) to s.1 in
@@ -73,7 +73,7 @@ module _ (dest : Dest → ℕ) (code : Region) where
       let z : at + size_of_items is ≡ at + (0 + size_of_items is) = omega arith in
       ((s.0, subst (λ b. Stands dest code at is b) z r.0), subst (λ a. Stands dest code a js to) z r.1)
 
-  size_cut : (is js : List Item) → size_of_items (is ++ js) ≡ size_of_items is + size_of_items js
+  pub size_cut : (is js : List Item) → size_of_items (is ++ js) ≡ size_of_items is + size_of_items js
   size_cut [] js = omega arith
   size_cut (Put i ∷ is) js = let q = size_cut is js in omega (arith, q)
   size_cut (Byte b ∷ is) js = let q = size_cut is js in omega (arith, q)

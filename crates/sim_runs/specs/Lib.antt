@@ -11,5 +11,6 @@ pub mod Recovered
 pub mod Promised
 pub mod Law
 pub mod WholeBlock
+pub mod Given
 pub mod Passes
 pub mod Pieces

@@ -1,6 +1,7 @@
 //! The laws of fragments.
 ghost use Rattle.sim_runs.specs.Pieces.{FragmentsRun};
 ghost use Rattle.sim_runs.specs.WholeBlock.{AllLinesServe};
+ghost use Rattle.sim_runs.specs.Given.{CodingGives};
 
 use ia_decode::encoding_length;
 use ia_encode::{direct_lengths, items_stand, round_trip};
@@ -20,4 +21,10 @@ pub fn fragments_run()
 /// of its own, where all virtual registers are live.
 pub fn all_lines_serve()
     ensures { AllLinesServe }
+{}
+
+/// A coding gives what the block that it serves does: memory allows its body, and behind body and sunk lines
+/// all outs are the block's.
+pub fn coding_gives()
+    ensures { CodingGives }
 {}

@@ -1,0 +1,13 @@
+mod Checked
+mod Named
+mod Placing
+mod Served
+mod Steps
+mod Body
+mod Stub
+mod Way
+mod Whole
+mod Joined
+mod Suited
+mod Capture
+mod Marked
