@@ -158,7 +158,7 @@ address_low address laws (f ∷ fs) at y = decide (f.start == y) (address_low ad
         let both = length-append (bytes_at address at f.items) (bytes_from address (at + size_of_items f.items) fs) in
         omega (arith, q, long, both)
 
-low : (laws : JumpLengths) (exe : Exe) (edges : List Edge) (y : ℕ) → address_of exe edges y ≤ CODE_START + length (code_of exe edges)
+pub low : (laws : JumpLengths) (exe : Exe) (edges : List Edge) (y : ℕ) → address_of exe edges y ≤ CODE_START + length (code_of exe edges)
 low laws exe edges y =
     let entry = entry_of exe edges in
     let first = bytes_at (address_of exe edges) CODE_START entry in
@@ -189,7 +189,7 @@ known_behind exe edges x y i k =
     decide true h = same (next_of exe x) h
     decide false h = absurd (let f : false ≡ true = h in cc)
 
-live_there : (live : ℕ → ℕ) (ys : List ℕ) (y : ℕ) → is_among ys y ≡ true → live_at (map (λ y. (y, live y)) ys) y ≡ Some (live y)
+pub live_there : (live : ℕ → ℕ) (ys : List ℕ) (y : ℕ) → is_among ys y ≡ true → live_at (map (λ y. (y, live y)) ys) y ≡ Some (live y)
 live_there live [] y h = absurd (let f : false ≡ true = h in cc)
 live_there live (z ∷ ys) y h = ⊎_elim
     (λ (q : ((z == y) ≡ true) × (z ≡ y)). ap (λ b. if b then Some (live z) else live_at (map (λ y. (y, live y)) ys) y) q.0 ∙ ap (λ v. Some (live v)) q.1)

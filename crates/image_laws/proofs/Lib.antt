@@ -8,3 +8,4 @@ mod Laying
 mod Leading
 mod Exchanging
 mod Meeting
+mod Making

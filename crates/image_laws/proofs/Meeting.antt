@@ -40,4 +40,4 @@ pub images_made : Parts → FragmentsRun → ImagesMade
 images_made parts run exe edges original bytes room made =
     let long = parts.hold exe edges in
     let size = ap length (parts.stands.bytes exe edges) in
-    images_meet parts exe edges (length (coded_of exe edges).code.bytes) original bytes room (omega (arith, long, size)) (run exe edges (coded_of exe edges) (coding_at exe edges) made)
+    images_meet parts exe edges (length (coded_of exe edges).code.bytes) original bytes room (omega (arith, long, size)) (run.by_length exe edges (coded_of exe edges) (coding_at exe edges) made)

@@ -4,3 +4,4 @@ pub mod Serves
 pub mod Laid
 pub mod Exchanged
 pub mod Law
+pub mod Made

@@ -4,11 +4,13 @@
 mod exchanged;
 mod laid;
 mod law;
+mod made;
 mod serves;
 mod stands;
 
 pub use exchanged::states_exchanged;
 pub use laid::{images_hold, images_laid};
 pub use law::images_meet;
+pub use made::fragments_made;
 pub use serves::{codings_serve, lifted_blocks};
 pub use stands::code_stands;
