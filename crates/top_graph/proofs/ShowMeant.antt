@@ -20,7 +20,8 @@ use Rattle.top_plan.specs.declared.ends.Halt.TheVariants.{Because}
 use Rattle.top_plan.specs.declared.ends.Cause.{Cause}
 use Rattle.top_plan.specs.declared.ends.Cause.TheVariants.{Limited}
 use Rattle.top_plan.specs.declared.ends.Limit.TheVariants as limits
-use Rattle.top_graph.proofs.Quiet.{untaken, show_quiet}
+use Rattle.top_files.proofs.PartTurns.{untaken}
+use Rattle.top_graph.proofs.Quiet.{show_quiet}
 use Rattle.top_files.proofs.ReadMeant.{IsQuiet, Did, chosen, says, reading_means}
 
 has_printed : (text : List ℕ) (blocks : ℕ) (files : Files) (s : World) (result : ℕ) (t : World) → IsQuiet files s t → Did (prints text (Ends (Ok (done_with (shown_line blocks))))) files s result t → HasPrinted text (shown_line blocks) s result t
