@@ -1,5 +1,5 @@
 -- Commands that take nothing of the input.
-use Rattle.std.proofs.Common.{◌≡◌, ℕ, List, [], ◌∷◌, length, Ok, ◌∙◌, ap}
+use Rattle.std.proofs.Common.{ℕ, List, [], ◌∷◌, length, Ok}
 use Rattle.trace_file.specs.Edges.{union_of}
 use Rattle.flow_graph.specs.GraphOf.{graph_of}
 use Rattle.top_plan.specs.Plan.{Plan, Ends}
