@@ -92,7 +92,7 @@ later_reached f (inr b) = inr (f b)
 counted_course : (all : List (List ℕ)) (first last : ℕ) (digest name bytes : List ℕ) (names : List (List ℕ)) (word before : ℕ) (next : List (List Edge) → Plan) (s : World) (o : WorkEnd) (t : World) (v : ShelfView) (es : List Edge) (b : Bool)
     → nat_le (before + length es) 16777216 ≡ b → IsSeen s.shelf v → IfSome s.shelf.files (λ files. files name ≡ Some bytes) → length bytes ≤ 16777216 → trace bytes digest ≡ Ok es
     → ((es : List Edge) → Went (traces_part digest names (word + 1) (before + length es) (λ rest. next (es ∷ rest))) (on_shelf s v) o t
-      → Halts all first last s o t ⊎ Reached digest names (before + length es) (λ rest. next (es ∷ rest)) s o t)
+    → Halts all first last s o t ⊎ Reached digest names (before + length es) (λ rest. next (es ∷ rest)) s o t)
     → Went (checked (cond b (Ok es) (Err (Limited (limits.Edges 16777216)))) (λ es. traces_part digest names (word + 1) (before + length es) (λ rest. next (es ∷ rest)))) (on_shelf s v) o t
     → Halts all first last s o t ⊎ Reached digest (name ∷ names) before next s o t
 unfolding Went
@@ -104,7 +104,7 @@ counted_course all first last digest name bytes names word before next s o t v e
 trace_course : (all : List (List ℕ)) (first last : ℕ) (digest name bytes : List ℕ) (names : List (List ℕ)) (word before : ℕ) (next : List (List Edge) → Plan) (s : World) (o : WorkEnd) (t : World) (v : ShelfView) (r : Result (List Edge) trace_file.Refused)
     → trace bytes digest ≡ r → first ≤ word → word ≤ last → IsSeen s.shelf v → IfSome s.shelf.files (λ files. files name ≡ Some bytes) → length bytes ≤ 16777216
     → ((es : List Edge) → Went (traces_part digest names (word + 1) (before + length es) (λ rest. next (es ∷ rest))) (on_shelf s v) o t
-      → Halts all first last s o t ⊎ Reached digest names (before + length es) (λ rest. next (es ∷ rest)) s o t)
+    → Halts all first last s o t ⊎ Reached digest names (before + length es) (λ rest. next (es ∷ rest)) s o t)
     → Went (checked (counted before (edges_of_word word r)) (λ es. traces_part digest names (word + 1) (before + length es) (λ rest. next (es ∷ rest)))) (on_shelf s v) o t
     → Halts all first last s o t ⊎ Reached digest (name ∷ names) before next s o t
 unfolding Went
@@ -126,8 +126,13 @@ traces_course all first last digest (name ∷ names) word before next s o t v up
     (λ es went. traces_course all first last digest names (word + 1) (before + length es) (λ rest. next (es ∷ rest)) s o t w (λ files h. up files (inr h)) (omega (arith, low)) (omega (arith, high)) (seen_on name 16777216 bytes s.shelf v w seen was) went)
     went
 traces_course all first last digest (name ∷ names) word before next s o t v up low high seen (inr (w, Err shelf_errors.Failed, was, (is, same))) =
-    inl (w, same, was.same ∙ seen.same, Misses is (rises s.shelf.faults v.faults w.faults seen.later was.gives.0)
-    (λ calm. of_one s.shelf.files (λ files. files name ≡ None) (IsOneAbsent all) (λ files h. up files (inl h)) (told_before s.shelf.files v.files (λ files. files name ≡ None) seen.same (was.gives.1 (seen.calm ∙ calm)))))
+    inl (
+      w,
+      same,
+      was.same ∙ seen.same,
+      Misses is (rises s.shelf.faults v.faults w.faults seen.later was.gives.0)
+          (λ calm. of_one s.shelf.files (λ files. files name ≡ None) (IsOneAbsent all) (λ files h. up files (inl h)) (told_before s.shelf.files v.files (λ files. files name ≡ None) seen.same (was.gives.1 (seen.calm ∙ calm)))),
+    )
 traces_course all first last digest (name ∷ names) word before next s o t v up low high seen (inr (w, Err shelf_errors.TooLong, was, (is, same))) = inl (w, same, was.same ∙ seen.same, Passes (limits.File 16777216) (inr (inl refl)) is)
 traces_course all first last digest (name ∷ names) word before next s o t v up low high seen (inr (w, Err shelf_errors.Memory, was, (is, same))) = inl (w, same, was.same ∙ seen.same, Wants is)
 
