@@ -9,7 +9,7 @@ as many lines as it has. Prints each difference, and last 'N passed, M failed'; 
 import os, re, sys
 
 TOP = os.path.dirname(os.path.dirname(os.path.abspath(__file__)))
-HEADS = ["sim_laws/specs/Preserves.antt", "sim_laws/specs/Covers.antt", "build_core/specs/Image.antt"]
+HEADS = ["sim_laws/specs/Preserves.antt", "sim_laws/specs/Covers.antt", "code_layout/specs/Image.antt"]
 NEAR = 25
 
 

@@ -50,7 +50,7 @@ fits_as command read is h = let P : Command → Type 0 = λ c. IsFitting (asked_
 
 -- the plans of the commands are orderly
 pub record AreOrderly : Type 0 where
-  pub build : (name original : List ℕ) → IsOrderly (build_plan name original)
+  pub build : (name original : List ℕ) (traces : List (List ℕ)) → IsOrderly (build_plan name original traces)
   pub run : (steps : ℕ) (name : List ℕ) (args : List (List ℕ)) (word : ℕ) → IsOrderly (run_plan steps name args word)
   pub trace : (steps : ℕ) (target original : List ℕ) (args : List (List ℕ)) (word : ℕ) → IsOrderly (trace_plan steps target original args word)
   pub merge : (target original : List ℕ) (names : List (List ℕ)) → IsOrderly (merge_plan target original names)
@@ -58,7 +58,7 @@ pub record AreOrderly : Type 0 where
 
 -- what their answers mean
 pub record Meanings : Type 0 where
-  pub build : (name original : List ℕ) (s : World) (result : ℕ) (t : World) → Happened (build_plan name original) s result t → MeansBuild name original s result t
+  pub build : (name original : List ℕ) (traces : List (List ℕ)) (s : World) (result : ℕ) (t : World) → Happened (build_plan name original traces) s result t → MeansBuild name original traces s result t
   pub run : (steps : ℕ) (name : List ℕ) (args : List (List ℕ)) (word : ℕ) (s : World) (result : ℕ) (t : World) → Happened (run_plan steps name args word) s result t → MeansRun steps name args word s result t
   pub trace : (steps : ℕ) (target original : List ℕ) (args : List (List ℕ)) (word : ℕ) (s : World) (result : ℕ) (t : World)
       → Happened (trace_plan steps target original args word) s result t → MeansTrace steps target original args word s result t
@@ -83,7 +83,7 @@ none_there : (at : ℕ) (q : Plan) → (let r : Result Plan ℕ = Err at in r) �
 none_there at q is = absurd (cc)
 
 orderly_of : AreOrderly → (asked : Asked) (word : ℕ) (p : Plan) → plan_of asked word ≡ Ok p → IsOrderly p
-orderly_of law (Builds name original traces) word p is = same_plan (build_plan name original) p is (law.build name original)
+orderly_of law (Builds name original traces) word p is = same_plan (build_plan name original traces) p is (law.build name original traces)
 orderly_of law (Traces steps target original args) word p is = same_plan (trace_plan steps target original args (word + 1)) p is (law.trace steps target original args (word + 1))
 orderly_of law (Runs steps name args) word p is = same_plan (run_plan steps name args word) p is (law.run steps name args word)
 orderly_of law (Merges target original names) word p is = same_plan (merge_plan target original names) p is (law.merge target original names)
@@ -106,7 +106,7 @@ pub record AllOf (words : List (List ℕ)) (s : World) (result : ℕ) (t : World
   pub cause : HasCause s result t
   pub steady : IsSteady s result t
   pub usage : MeansUsage (plan words) s result t
-  pub build : (name original : List ℕ) → asked_by words ≡ Ok (Builds name original []) → MeansBuild name original s result t
+  pub build : (name original : List ℕ) (traces : List (List ℕ)) → asked_by words ≡ Ok (Builds name original traces) → MeansBuild name original traces s result t
   pub run : (steps : ℕ) (name : List ℕ) (args : List (List ℕ)) → asked_by words ≡ Ok (Runs steps name args) → MeansRun steps name args (first_name words) s result t
   pub trace : (steps : ℕ) (target original : List ℕ) (args : List (List ℕ)) → asked_by words ≡ Ok (Traces steps target original args) → MeansTrace steps target original args (first_name words + 1) s result t
   pub merge : (target original : List ℕ) (names : List (List ℕ)) → asked_by words ≡ Ok (Merges target original names) → MeansMerge target original names s result t
@@ -125,7 +125,7 @@ all_of words s result t law order meanings h =
       cause = law.cause (plan words) s result t h;
       steady = law.steady (plan words) s result t h;
       usage = means_usage (plan words) s result t law.never_one h;
-      build = λ name original is. meanings.build name original s result t (of_words (Builds name original []) is);
+      build = λ name original traces is. meanings.build name original traces s result t (of_words (Builds name original traces) is);
       run = λ steps name args is. meanings.run steps name args (first_name words) s result t (of_words (Runs steps name args) is);
       trace = λ steps target original args is. meanings.trace steps target original args (first_name words + 1) s result t (of_words (Traces steps target original args) is);
       merge = λ target original names is. meanings.merge target original names s result t (of_words (Merges target original names) is);

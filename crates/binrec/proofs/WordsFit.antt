@@ -96,11 +96,6 @@ unfolding Fit
 fit_name at [] next h = tt
 fit_name at (word ∷ words) next h = fit_cond (is_name word) (next word words) (Err at) (h word words) tt
 
-fit_wrong : (at : ℕ) (o : Option ℕ) (asked : Asked) → Fit (Ok asked) → Fit (unless_wrong at o asked)
-unfolding Fit
-fit_wrong at None asked h = h
-fit_wrong at (Some k) asked h = tt
-
 fit_no_more : (at : ℕ) (words : List (List ℕ)) (asked : Asked) → Fit (Ok asked) → Fit (no_more at words asked)
 unfolding Fit
 fit_no_more at [] asked h = h
@@ -135,7 +130,7 @@ fit_steps (word ∷ words) next h = fit_cond (bytes_eq word (codes "--steps")) (
 
 fit_build : (words : List (List ℕ)) → Fit (build_words words)
 unfolding Fit
-fit_build words = fit_name 1 words (λ n words. next_name 2 words (λ e words. traces_at 3 words (Builds n e words))) (λ n words. fit_name 2 words (λ e words. traces_at 3 words (Builds n e words)) (λ e words. fit_wrong 3 (first_no_trace 0 words) (Builds n e words) tt))
+fit_build words = fit_name 1 words (λ n words. next_name 2 words (λ e words. traces_at 3 words (Builds n e words))) (λ n words. fit_name 2 words (λ e words. traces_at 3 words (Builds n e words)) (λ e words. fit_traces 3 words (Builds n e words) (first_no_trace 0 words) (λ few. few) refl))
 
 fit_merge : (words : List (List ℕ)) → Fit (merge_words words)
 unfolding Fit

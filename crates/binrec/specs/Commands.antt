@@ -11,7 +11,7 @@ use Rattle.binrec.specs.Words.{asked_by}
 
 -- by the command, and where its first name stands; of those that are not there yet the first word is wrong
 abbrev pub plan_of : Asked → ℕ → Result Plan ℕ
-plan_of (Builds name original traces) word = Ok (build_plan name original)
+plan_of (Builds name original traces) word = Ok (build_plan name original traces)
 plan_of (Traces steps target original args) word = Ok (trace_plan steps target original args (word + 1))
 plan_of (Runs steps name args) word = Ok (run_plan steps name args word)
 plan_of (Merges target original names) word = Ok (merge_plan target original names)

@@ -3,16 +3,13 @@ use Rattle.std.specs.Prelude.{◌≡◌, ◌≤◌, ◌+◌, ◌^◌, ◌||◌, 
 use Rattle.word_reader.specs.declared.limits.TheConstants.{TRACE_LIMIT}
 use Rattle.std.specs.Str.{bytes_eq}
 use Rattle.run_model.specs.Opening.{FitArguments}
-use Rattle.word_reader.specs.Words.{Asked, Traces, Runs, Merges, Shows, command}
+use Rattle.word_reader.specs.Words.{Asked, Builds, Traces, Runs, Merges, Shows, command}
 use Rattle.word_reader.specs.Reads.{asked_of}
 use Rattle.word_reader.specs.declared.command.Command.{Command}
 
--- How many words a command takes so far, its own included, where it does not take all: `build` takes no traces yet, and
--- `session` and `demo` are not there yet.
+-- How many words a command takes so far, its own included, where it does not take all: `session` and `demo` are not there yet.
 abbrev pub words_taken : List ℕ → Option ℕ
-words_taken word =
-    cond (bytes_eq word (codes "build")) (Some 3) (
-    cond (bytes_eq word (codes "session") || bytes_eq word (codes "demo")) (Some 0) None)
+words_taken word = cond (bytes_eq word (codes "session") || bytes_eq word (codes "demo")) (Some 0) None
 
 -- what was read of so many words, where no more than these are taken
 abbrev pub within : Option ℕ → ℕ → Result Asked ℕ → Result Asked ℕ
@@ -37,6 +34,7 @@ pub record Fits (steps : ℕ) (args : List (List ℕ)) : Type 0 where
 
 -- what a command is given is no more than it can do
 abbrev pub IsFitting : Asked → Type 0
+IsFitting (Builds name original traces) = length traces ≤ TRACE_LIMIT
 IsFitting (Traces steps target original args) = Fits steps args
 IsFitting (Runs steps name args) = Fits steps args
 IsFitting (Merges target original names) = length names ≤ TRACE_LIMIT

@@ -2,6 +2,7 @@
 mod arguments;
 mod build;
 mod listings;
+mod refusals;
 mod run;
 mod traces;
 mod words;

@@ -1,5 +1,5 @@
 //! The top call.
-ghost use Rattle.std.specs.Prelude.{◌≡◌, ◌≤◌, ℕ, ◌+◌, List, [], Ok, map, string_bytes};
+ghost use Rattle.std.specs.Prelude.{◌≡◌, ◌≤◌, ℕ, ◌+◌, List, Ok, map, string_bytes};
 ghost use Rattle.br_outside.specs.Outside.{StreamView};
 ghost use Rattle.top_plan.specs.World.{world};
 ghost use Rattle.top_plan.specs.Plan.{Plan};
@@ -62,7 +62,9 @@ fn answer<F: Shelf, I: Source, O: Sink, R: Sink>(
         (world (F.seen shelf.new) (I.seen input.new) (O.seen out.new) (R.seen report.new)) }
 {
     match command {
-        Command::Build { n, e, .. } => tell_end(report, build_command(alloc, shelf, n, e)),
+        Command::Build { n, e, traces } => {
+            tell_end(report, build_command(alloc, shelf, n, e, traces))
+        }
         Command::Merge { t, e, traces } => {
             tell_end(report, merge_command(alloc, shelf, t, e, traces))
         }
@@ -95,7 +97,7 @@ fn answer<F: Shelf, I: Source, O: Sink, R: Sink>(
 ///
 /// | Words | What is done | Line with status 0 |
 /// |---|---|---|
-/// | `build N E` | stores as N a file that does what E does | `built 0 5 L`, L the length of N in bytes |
+/// | `build N E T..` | stores as N a file that does what E does, with the blocks that the traces of E have seen as recovered code | `built B C L`, B the number of blocks, C the length of the recovered code and L that of N in bytes |
 /// | `trace [--steps K] T E WORD..` | runs E and stores the edges of its steps as T | `exit S steps M undefined U edges P` |
 /// | `run [--steps K] E WORD..` | runs E for at most K steps | `exit S steps M undefined U` |
 /// | `merge T E T..` | stores the union of the later traces of E as the first T | `merged P` |
@@ -119,7 +121,7 @@ fn answer<F: Shelf, I: Source, O: Sink, R: Sink>(
 /// - 5: the guest faulted. `fault KIND ADDRESS` and the counts of status 0.
 /// - 6: after K steps the guest still ran. `budget` and the counts of status 0.
 /// - 7: a limit is passed. `limit file 16777216` (268435456 for `run`), `limit edges 16777216` for all traces, `limit union 2000000`
-///   for what is stored as a trace, `limit blocks 65536` for `show`.
+///   for what is stored as a trace, `limit blocks 65536` for `build` and `show`, `limit code 100663296` for `build`.
 ///
 /// The first cause in the order of the work decides: E comes before the traces, each file is fetched,
 /// measured, read and counted before the next, and a fault of an object stands at the call that met it. But
@@ -162,8 +164,9 @@ pub fn binrec<F: Shelf, I: Source, O: Sink, R: Sink>(
     ensures usage { MeansUsage (plan (map string_bytes words.now))
         (world (F.seen shelf.old) (I.seen input.old) (O.seen out.old) (R.seen report.old)) result.0
         (world (F.seen shelf.new) (I.seen input.new) (O.seen out.new) (R.seen report.new)) }
-    ensures build { (name original : List ℕ) → asked_by (map string_bytes words.now) ≡ Ok (Builds name original [])
-        → MeansBuild name original
+    ensures build { (name original : List ℕ) (traces : List (List ℕ))
+        → asked_by (map string_bytes words.now) ≡ Ok (Builds name original traces)
+        → MeansBuild name original traces
         (world (F.seen shelf.old) (I.seen input.old) (O.seen out.old) (R.seen report.old)) result.0
         (world (F.seen shelf.new) (I.seen input.new) (O.seen out.new) (R.seen report.new)) }
     ensures run { (steps : ℕ) (name : List ℕ) (args : List (List ℕ)) → asked_by (map string_bytes words.now) ≡ Ok (Runs steps name args)

@@ -5,14 +5,11 @@ ghost use Rattle.binrec.specs.Words.{Reads, IsFitting, words_taken, asked_by};
 
 use word_reader::{Command, read_words};
 
-/// How many words the command of this word takes so far, its own included, where it does not take all yet: `build` takes
-/// no traces, and `session` and `demo` are not there.
+/// How many words the command of this word takes so far, its own included, where it does not take all yet: `session` and
+/// `demo` are not there.
 fn words_taken(word: &str) -> Option<u32>
     ensures { result ≡ words_taken word.now }
 {
-    if word == "build" {
-        return Some(3);
-    }
     if word == "session" || word == "demo" {
         return Some(0);
     }

@@ -1,2 +1,0 @@
-pub mod JumpPreserves
-pub mod OriginalImages

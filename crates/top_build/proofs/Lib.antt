@@ -1,3 +1,4 @@
 pub mod ImageStored
+pub mod EdgesGiven
 pub mod Courses
 pub mod BuildMeant

@@ -1,5 +1,6 @@
 //! What `build` comes to.
 ghost use Rattle.std.specs.Prelude.{ℕ, List};
+ghost use Rattle.build_core.specs.ImageLaw.{ImageLaw};
 ghost use Rattle.top_plan.specs.World.{World};
 ghost use Rattle.top_plan.specs.Happened.{Happened};
 ghost use Rattle.top_plan.specs.Partial.{IsOrderly};
@@ -7,12 +8,15 @@ ghost use Rattle.top_build.specs.BuildPlan.{build_plan};
 ghost use Rattle.top_build.specs.BuildMeaning.{MeansBuild};
 
 use build_core::image_law;
+use top_plan::plan_law;
 
 /// The plan of `build` is orderly, and what is answered after a run of it means what it is to mean.
 pub fn build_law()
-    ensures orderly { (name original : List ℕ) → IsOrderly (build_plan name original) }
-    ensures means { (name original : List ℕ) (s : World) (result : ℕ) (t : World)
-        → Happened (build_plan name original) s result t → MeansBuild name original s result t }
+    requires { ImageLaw }
+    ensures orderly { (name original : List ℕ) (traces : List (List ℕ)) → IsOrderly (build_plan name original traces) }
+    ensures means { (name original : List ℕ) (traces : List (List ℕ)) (s : World) (result : ℕ) (t : World)
+        → Happened (build_plan name original traces) s result t → MeansBuild name original traces s result t }
 {
     image_law();
+    plan_law();
 }

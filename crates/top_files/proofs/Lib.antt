@@ -2,3 +2,4 @@ pub mod GuestToo
 pub mod TracesRun
 pub mod ReadMeant
 pub mod PartTurns
+pub mod ReadCourse

@@ -1,13 +1,16 @@
 -- What a plan asks of the input that reads files first, by what the plans behind them ask.
-use Rattle.std.proofs.Common.{◌+◌, ℕ, List, [], ◌∷◌, length, Result, Ok, Err}
+use Rattle.std.proofs.Common.{◌≡◌, ◌∙◌, ap, ◌+◌, ℕ, List, [], ◌∷◌, length, Result, Ok, Err}
 use Rattle.elf_read.specs.Elf.{elf}
 use Rattle.elf_read.specs.declared.exe.Reach.TheVariants.{Original}
 use Rattle.trace_file.specs.Edges.{Edge}
 use Rattle.trace_file.specs.Trace.{trace}
+use Rattle.top_plan.specs.World.{World}
 use Rattle.top_plan.specs.Plan.{Plan, Turned}
+use Rattle.top_plan.specs.Happened.{Happened}
 use Rattle.top_plan.specs.Parts.{checked}
 use Rattle.top_plan.specs.Expected.{NoInput, AllTurns}
 use Rattle.top_plan.specs.declared.ends.Cause.{Cause}
+use Rattle.top_plan.proofs.Unread.{input_stays}
 use Rattle.top_files.specs.OriginalPart.{of_word, with_digest, subject_part}
 use Rattle.top_files.specs.TracesPart.{edges_of_word, counted, traces_part}
 use Rattle.top_files.specs.declared.original.Subject.{Subject}
@@ -35,3 +38,7 @@ pub reading_quiet : (original : List ℕ) (names : List (List ℕ)) (word : ℕ)
 unfolding NoInput
 reading_quiet original names word next h =
     λ bytes. checked_quiet (with_digest bytes (of_word word (elf Original bytes))) _ (λ subject. traces_quiet subject.digest names (word + 1) 0 (next subject) (h subject))
+
+-- neither the work nor the report line takes any
+pub untaken : (p : Plan) (s : World) (result : ℕ) (t : World) → NoInput p → Happened p s result t → t.input ≡ s.input
+untaken p s result t quiet (o, m, went, (v, told, same)) = ap (λ w. w.input) same ∙ input_stays p s o m quiet went

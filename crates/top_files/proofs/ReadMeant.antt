@@ -12,12 +12,13 @@ use Rattle.trace_file.specs.Trace.{trace}
 use Rattle.trace_file.specs.Trace as trace_file
 use Rattle.top_plan.specs.World.{World}
 use Rattle.top_plan.specs.Texts.{halt_text, halt_status}
-use Rattle.top_plan.specs.Plan.{Plan}
+use Rattle.top_plan.specs.Plan.{Plan, Ends, Stores}
+use Rattle.top_plan.specs.Outcomes.{done_with}
 use Rattle.top_plan.specs.Parts.{checked}
 use Rattle.top_plan.specs.Expected.{ends_with, after_fetch, expected, IsWhole, Decided}
 use Rattle.top_files.specs.OriginalPart.{of_word, with_digest, subject_part}
 use Rattle.top_files.specs.TracesPart.{edges_of_word, counted, traces_part}
-use Rattle.top_files.specs.Answers.{OnlySays, UnlessBroken}
+use Rattle.top_files.specs.Answers.{OnlySays, UnlessBroken, HasStored}
 use Rattle.top_files.specs.ReadMeaning.{ReadsEdges, ReadsTrace, ReadsTraces, ReadsExe, ReadsContent}
 use Rattle.top_plan.specs.declared.ends.Halt.{Halt}
 use Rattle.top_plan.specs.declared.ends.Halt.TheVariants.{Because, Outside}
@@ -58,6 +59,17 @@ chosen P n limit a b h = (λ few. subst P (cond-true (nat_le n limit) a b (le-le
 
 pub says : (halt : Halt) (files : Files) (s : World) (result : ℕ) (t : World) → IsQuiet files s t → IsWhole files [] (ends_with (Err halt) files []) s result t → OnlySays (halt_status halt) (halt_text halt) s result t
 says halt files s result t h w = only_says halt files [] s result t h.told h.input w
+
+-- a file is stored, and that is the end
+pub has_stored : (name bytes line : List ℕ) (files : Files) (s : World) (result : ℕ) (t : World) → IsQuiet files s t → Did (Stores name bytes (Ends (Ok (done_with line)))) files s result t → HasStored name bytes line files s result t
+unfolding expected
+has_stored name bytes line files s result t h w = record {
+  status = w.status;
+  stored = w.shelf h.told;
+  report = w.report;
+  input = h.input;
+  out = w.out ∙ sym (nothing s.out.bytes);
+}
 
 -- what follows a trace means this
 abbrev Leads : (List Edge → Plan) → (List Edge → Type 0) → Files → World → ℕ → World → Type 0

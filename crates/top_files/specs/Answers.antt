@@ -1,6 +1,7 @@
 -- What a command has done, in a user's words.
-use Rattle.std.specs.Prelude.{◌≡◌, ◌⊎◌, ◌<◌, ◌≤◌, ◌+◌, ℕ, List, ◌++◌, length}
+use Rattle.std.specs.Prelude.{◌≡◌, ◌⊎◌, ◌<◌, ◌≤◌, ℕ, List, ◌++◌, length, Some}
 use Rattle.std.specs.Option.{option_map}
+use Rattle.br_outside.specs.Files.{Files, put}
 use Rattle.br_outside.specs.Outside.{SameBut}
 use Rattle.top_plan.specs.World.{World}
 use Rattle.top_plan.specs.Texts.{cause_text, object_text}
@@ -51,3 +52,11 @@ IsPast limit = OnlySays 7 (cause_text (Limited limit))
 abbrev pub UnlessLong : ℕ → List ℕ → Type 0 → World → ℕ → World → Type 0
 UnlessLong limit content Read s result t =
     (length content ≤ limit → Read) × (limit < length content → IsPast (limits.File limit) s result t)
+
+-- the bytes were stored under a name, and a line was reported; nothing else was done
+pub record HasStored (name bytes line : List ℕ) (files : Files) (s : World) (result : ℕ) (t : World) : Type 0 where
+  pub status : result ≡ 0
+  pub stored : t.shelf.files ≡ Some (put name (Some bytes) files)
+  pub report : Says line s t
+  pub input : t.input.bytes ≡ s.input.bytes
+  pub out : t.out.bytes ≡ s.out.bytes

@@ -1,5 +1,5 @@
 -- What a command has done that reads an original and its traces, by what the work behind them has done.
-use Rattle.std.specs.Prelude.{◌<◌, ◌≤◌, ◌+◌, ℕ, List, [], ◌∷◌, ◌++◌, length, Option, Some, None, Result, Ok, Err}
+use Rattle.std.specs.Prelude.{◌≡◌, ◌⊎◌, ◌<◌, ◌≤◌, ◌+◌, ℕ, List, [], ◌∷◌, ◌++◌, length, Option, Some, None, Result, Ok, Err}
 use Rattle.elf_read.specs.declared.limits.TheConstants.{ORIGINAL_FILE_LIMIT}
 use Rattle.trace_file.specs.declared.limits.TheConstants.{EDGE_LIMIT}
 use Rattle.top_files.specs.declared.traces.TheConstants.{TRACE_FILE_LIMIT}
@@ -12,6 +12,7 @@ use Rattle.trace_file.specs.Edges.{Edge}
 use Rattle.trace_file.specs.Trace.{trace}
 use Rattle.trace_file.specs.Trace as trace_file
 use Rattle.top_plan.specs.World.{World}
+use Rattle.top_plan.specs.declared.ends.Limit.{Limit}
 use Rattle.top_plan.specs.declared.ends.Limit.TheVariants as limits
 use Rattle.top_files.specs.Answers.{IsAbsent, IsRefused, IsPast, UnlessLong}
 
@@ -50,3 +51,38 @@ abbrev pub ReadsContent : (Exe → List ℕ → List (List Edge) → Type 0)
 ReadsContent last names word None files s result t = IsAbsent s result t
 ReadsContent last names word (Some content) files s result t =
     UnlessLong ORIGINAL_FILE_LIMIT content (ReadsExe last names word content (elf Original content) files s result t) s result t
+
+-- ---- the same in single facts
+
+-- a name holds a trace of the original with this digest, with these edges, which with those before it are not too many
+pub record IsAccepted (files : Files) (digest name : List ℕ) (before : ℕ) (es : List Edge) : Type 0 where
+  pub content : List ℕ
+  pub there : files name ≡ Some content
+  pub short : length content ≤ TRACE_FILE_LIMIT
+  pub accepted : trace content digest ≡ Ok es
+  pub few : before + length es ≤ EDGE_LIMIT
+
+-- so does each of these names, one after another
+abbrev pub AreAccepted : Files → List ℕ → List (List ℕ) → ℕ → List (List Edge) → Type 0
+AreAccepted files digest [] before [] = Unit {0}
+AreAccepted files digest (name ∷ names) before (es ∷ sets) =
+    IsAccepted files digest name before es × AreAccepted files digest names (before + length es) sets
+AreAccepted files digest _ before _ = ⊥
+
+-- An original and its traces are accepted: the executable, and the edges of each trace.
+pub record AreGiven (original : List ℕ) (names : List (List ℕ)) (files : Files) (exe : Exe) (sets : List (List Edge)) : Type 0 where
+  pub content : List ℕ
+  pub there : files original ≡ Some content
+  pub short : length content ≤ ORIGINAL_FILE_LIMIT
+  pub accepted : elf Original content ≡ Ok exe
+  pub traces : AreAccepted files (sha256 content) names 0 sets
+
+-- one of the names is nowhere
+abbrev pub IsOneAbsent : List (List ℕ) → Files → Type 0
+IsOneAbsent [] files = ⊥
+IsOneAbsent (name ∷ names) files = (files name ≡ None) ⊎ IsOneAbsent names files
+
+-- a limit on what is read
+abbrev pub IsReadLimit : Limit → Type 0
+IsReadLimit limit =
+    (limit ≡ limits.File ORIGINAL_FILE_LIMIT) ⊎ ((limit ≡ limits.File TRACE_FILE_LIMIT) ⊎ (limit ≡ limits.Edges EDGE_LIMIT))

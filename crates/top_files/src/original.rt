@@ -62,7 +62,7 @@ pub fn fetch_original<F: Shelf>(
 fn subject_of(alloc: Global, bytes: &[u8], word: u32) -> Result<Subject, Halt>
     requires { length bytes.now ≤ ORIGINAL_FILE_LIMIT }
     ensures checks { Checks (λ subject. subject) result (with_digest bytes.now (of_word word (elf Original bytes.now))) }
-    ensures guest { IfOk result (λ subject. IsGuest subject.exe) }
+    ensures original { IfOk result (λ subject. IsOriginal subject.exe) }
 {
     let exe = original_of(alloc, bytes, word)?;
     Ok(Subject {
@@ -83,6 +83,7 @@ pub fn fetch_subject<F: Shelf>(
 ) -> Result<Subject, Halt>
     ensures goes { (w : World) → Goes (λ subject. subject) (subject_part name.now word)
         (on_shelf w (F.seen shelf.old)) result (on_shelf w (F.seen shelf.new)) }
+    ensures original { IfOk result (λ subject. IsOriginal subject.exe) }
     ensures guest { IfOk result (λ subject. IsGuest subject.exe) }
 {
     let bytes = fetch_file(alloc, shelf, name, ORIGINAL_FILE_LIMIT)?;

@@ -1,5 +1,5 @@
 -- Listings that are made and printed.
-use Rattle.std.proofs.Common.{◌≡◌, ℕ, ◌≤◌, true, false, ◌==◌, cond, List, [], ◌∷◌, length, Result, Ok, Err, sym, subst, ap, ◌∙◌, arith}
+use Rattle.std.proofs.Common.{◌≡◌, ℕ, ◌≤◌, true, cond, List, length, Result, Ok, Err, sym, subst, ap, ◌∙◌, arith}
 use Rattle.flow_graph.specs.declared.error.TheConstants.{MAX_BLOCKS}
 use Rattle.std.specs.Prelude.{nat_le}
 use Rattle.std.proofs.lemmas.Bool.Decides.{nat_tests}

@@ -1,33 +1,21 @@
 -- What `merge` answers means what it is to mean.
-use Rattle.std.proofs.Common.{◌≡◌, ℕ, List, [], length, Result, Ok, Err, sym, ◌∙◌, ap, subst, inl, inr}
+use Rattle.std.proofs.Common.{◌≡◌, ℕ, List, [], length, Result, Ok, Err, ap, inl, inr}
 use Rattle.br_outside.specs.Files.{Files}
 use Rattle.trace_file.specs.Edges.{Edge, union_of}
 use Rattle.trace_file.specs.Trace.{trace_bytes}
 use Rattle.top_plan.specs.World.{World}
-use Rattle.top_plan.specs.Plan.{Ends, Stores}
 use Rattle.top_plan.specs.Parts.{checked}
 use Rattle.top_plan.specs.Happened.{Happened}
 use Rattle.top_plan.specs.Expected.{expected, NoInput, IsExact}
-use Rattle.top_plan.specs.Outcomes.{done_with}
 use Rattle.top_graph.specs.MergePlan.{merged_line, store_part, union_part, merge_plan}
-use Rattle.top_graph.specs.MergeMeaning.{HasStored, MergesUnion, MergesSets, MeansMerge}
+use Rattle.top_graph.specs.MergeMeaning.{MergesUnion, MergesSets, MeansMerge}
 use Rattle.top_plan.specs.declared.ends.Halt.TheVariants.{Because}
 use Rattle.top_plan.specs.declared.ends.Cause.{Cause}
 use Rattle.top_plan.specs.declared.ends.Cause.TheVariants.{Limited}
 use Rattle.top_plan.specs.declared.ends.Limit.TheVariants as limits
-use Rattle.top_plan.proofs.Kept.{nothing}
-use Rattle.top_graph.proofs.Quiet.{untaken, merge_quiet}
-use Rattle.top_files.proofs.ReadMeant.{IsQuiet, Did, chosen, says, reading_means}
-
-has_stored : (name bytes line : List ℕ) (files : Files) (s : World) (result : ℕ) (t : World) → IsQuiet files s t → Did (Stores name bytes (Ends (Ok (done_with line)))) files s result t → HasStored name bytes line files s result t
-unfolding expected
-has_stored name bytes line files s result t h w = record {
-  status = w.status;
-  stored = w.shelf h.told;
-  report = w.report;
-  input = h.input;
-  out = w.out ∙ sym (nothing s.out.bytes);
-}
+use Rattle.top_files.proofs.PartTurns.{untaken}
+use Rattle.top_graph.proofs.Quiet.{merge_quiet}
+use Rattle.top_files.proofs.ReadMeant.{IsQuiet, Did, chosen, says, has_stored, reading_means}
 
 union_means : (target digest : List ℕ) (es : List Edge) (files : Files) (s : World) (result : ℕ) (t : World) → IsQuiet files s t → Did (union_part target digest es) files s result t → MergesUnion target digest es files s result t
 unfolding expected

@@ -1,22 +1,15 @@
 -- Commands that take nothing of the input.
-use Rattle.std.proofs.Common.{◌≡◌, ℕ, List, [], ◌∷◌, length, Ok, ◌∙◌, ap}
+use Rattle.std.proofs.Common.{ℕ, List, [], ◌∷◌, length, Ok}
 use Rattle.trace_file.specs.Edges.{union_of}
 use Rattle.flow_graph.specs.GraphOf.{graph_of}
-use Rattle.top_plan.specs.World.{World}
 use Rattle.top_plan.specs.Plan.{Plan, Ends}
 use Rattle.top_plan.specs.Parts.{prints}
-use Rattle.top_plan.specs.Happened.{Happened}
 use Rattle.top_plan.specs.Expected.{NoInput}
 use Rattle.top_plan.specs.Outcomes.{done_with}
-use Rattle.top_plan.proofs.Unread.{input_stays}
 use Rattle.top_files.specs.TracesPart.{limited}
 use Rattle.top_files.proofs.PartTurns.{checked_quiet, reading_quiet}
 use Rattle.top_graph.specs.MergePlan.{store_part, merge_plan}
 use Rattle.top_graph.specs.ShowPlan.{listing, limited_graph, shown_line, listing_part, show_plan}
-
--- neither the work nor the report line takes any
-pub untaken : (p : Plan) (s : World) (result : ℕ) (t : World) → NoInput p → Happened p s result t → t.input ≡ s.input
-untaken p s result t quiet (o, m, went, (v, told, same)) = ap (λ w. w.input) same ∙ input_stays p s o m quiet went
 
 pub merge_quiet : (target original : List ℕ) (names : List (List ℕ)) → NoInput (merge_plan target original names)
 unfolding NoInput

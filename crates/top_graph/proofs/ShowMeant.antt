@@ -1,5 +1,5 @@
 -- What `show` answers means what it is to mean.
-use Rattle.std.proofs.Common.{◌≡◌, ℕ, List, [], ◌∷◌, ◌++◌, length, Result, Ok, Err, sym, ◌∙◌, ap, subst, inl, inr}
+use Rattle.std.proofs.Common.{◌≡◌, ℕ, List, [], ◌∷◌, ◌++◌, length, Result, Ok, Err, sym, ◌∙◌, ap, inl, inr}
 use Rattle.flow_graph.specs.declared.error.TheConstants.{MAX_BLOCKS}
 use Rattle.std.specs.Option.{option_map}
 use Rattle.std.proofs.lemmas.List.{append-nil}
@@ -20,7 +20,8 @@ use Rattle.top_plan.specs.declared.ends.Halt.TheVariants.{Because}
 use Rattle.top_plan.specs.declared.ends.Cause.{Cause}
 use Rattle.top_plan.specs.declared.ends.Cause.TheVariants.{Limited}
 use Rattle.top_plan.specs.declared.ends.Limit.TheVariants as limits
-use Rattle.top_graph.proofs.Quiet.{untaken, show_quiet}
+use Rattle.top_files.proofs.PartTurns.{untaken}
+use Rattle.top_graph.proofs.Quiet.{show_quiet}
 use Rattle.top_files.proofs.ReadMeant.{IsQuiet, Did, chosen, says, reading_means}
 
 has_printed : (text : List ℕ) (blocks : ℕ) (files : Files) (s : World) (result : ℕ) (t : World) → IsQuiet files s t → Did (prints text (Ends (Ok (done_with (shown_line blocks))))) files s result t → HasPrinted text (shown_line blocks) s result t

@@ -1,23 +1,15 @@
 -- What `merge` does, in a user's words.
 use Rattle.std.specs.Prelude.{◌≡◌, ◌<◌, ◌≤◌, ℕ, List, length, Some}
 use Rattle.trace_file.specs.declared.limits.TheConstants.{FILE_EDGE_LIMIT}
-use Rattle.br_outside.specs.Files.{Files, put}
+use Rattle.br_outside.specs.Files.{Files}
 use Rattle.elf_read.specs.declared.exe.Exe.{Exe}
 use Rattle.trace_file.specs.Edges.{Edge, union_of}
 use Rattle.trace_file.specs.Trace.{trace_bytes}
 use Rattle.top_plan.specs.World.{World}
 use Rattle.top_graph.specs.MergePlan.{merged_line}
-use Rattle.top_files.specs.Answers.{Says, UnlessBroken, IsPast}
+use Rattle.top_files.specs.Answers.{HasStored, UnlessBroken, IsPast}
 use Rattle.top_files.specs.ReadMeaning.{ReadsContent}
 use Rattle.top_plan.specs.declared.ends.Limit.TheVariants as limits
-
--- the bytes were stored under a name, and a line was reported; nothing else was done
-pub record HasStored (name bytes line : List ℕ) (files : Files) (s : World) (result : ℕ) (t : World) : Type 0 where
-  pub status : result ≡ 0
-  pub stored : t.shelf.files ≡ Some (put name (Some bytes) files)
-  pub report : Says line s t
-  pub input : t.input.bytes ≡ s.input.bytes
-  pub out : t.out.bytes ≡ s.out.bytes
 
 -- of the original with this digest the edges were stored, unless they are too many
 abbrev pub MergesUnion : List ℕ → List ℕ → List Edge → Files → World → ℕ → World → Type 0

@@ -1,5 +1,5 @@
 -- The plan of `merge`.
-use Rattle.std.specs.Prelude.{ℕ, ◌+◌, List, ◌++◌, length, Ok, codes}
+use Rattle.std.specs.Prelude.{ℕ, List, ◌++◌, length, Ok, codes}
 use Rattle.std.specs.Fmt.{decimal}
 use Rattle.trace_file.specs.Edges.{Edge, union_of}
 use Rattle.trace_file.specs.Trace.{trace_bytes}

@@ -1,5 +1,5 @@
 -- What `show` does, in a user's words.
-use Rattle.std.specs.Prelude.{◌≡◌, ◌<◌, ◌≤◌, ◌+◌, ℕ, List, ◌++◌, length, Some}
+use Rattle.std.specs.Prelude.{◌≡◌, ◌<◌, ◌≤◌, ℕ, List, ◌++◌, length, Some}
 use Rattle.flow_graph.specs.declared.error.TheConstants.{MAX_BLOCKS}
 use Rattle.std.specs.Option.{option_map}
 use Rattle.br_outside.specs.Files.{Files}

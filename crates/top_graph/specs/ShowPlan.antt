@@ -1,5 +1,5 @@
 -- The plan of `show`.
-use Rattle.std.specs.Prelude.{ℕ, nat_le, cond, List, ◌++◌, length, flat_map, codes, Result, Ok, Err, ◌+◌}
+use Rattle.std.specs.Prelude.{ℕ, nat_le, cond, List, ◌++◌, length, flat_map, codes, Result, Ok, Err}
 use Rattle.flow_graph.specs.declared.error.TheConstants.{MAX_BLOCKS}
 use Rattle.std.specs.Fmt.{decimal}
 use Rattle.elf_read.specs.declared.exe.Exe.{Exe}

@@ -8,7 +8,7 @@ pub const TRACE: [u8; 52] =
     *b"BRTRACE1\x91\xee\x0a\xdd\x03\xa3\x4f\x6a\x2a\x91\x13\xd3\x28\xd3\x2e\x4a\x5e\xbb\x3c\x21\x43\xc2\xd3\x7f\x1d\xfa\xd5\x99\xcf\xec\x3b\x7e\x01\x00\x00\x00\x00\x00\x00\x00\x54\x80\x04\x08";
 
 /// Runs a command over a shelf with `HELLO` as `E`, and these bytes as `T`.
-fn left_by_trace(rt: &HostRuntime, words: &[&str], trace: &[u8]) -> Result<Left, Fail> {
+pub fn left_by_trace(rt: &HostRuntime, words: &[&str], trace: &[u8]) -> Result<Left, Fail> {
     left_of(rt, words, &[("E", &HELLO), ("T", trace)])
 }
 
@@ -151,7 +151,7 @@ fn refuses_damaged_traces(rt: HostRuntime) -> Result<(), Fail> {
 }
 
 /// A trace of `HELLO` with so many pairs, whose sites go on from `start`.
-fn long_trace(alloc: Global, start: u32, count: u32) -> Result<Vec<u8>, AllocError> {
+pub fn long_trace(alloc: Global, start: u32, count: u32) -> Result<Vec<u8>, AllocError> {
     let mut file = TRACE[..40].to_vec(alloc)?;
     file.extend_from_slice(&count.to_le_bytes())?;
     for i in 0..count {

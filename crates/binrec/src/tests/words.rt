@@ -12,8 +12,8 @@ fn reads_the_words(rt: HostRuntime) -> Result<(), Fail> {
         (&["build", ""], "usage 1\n"),
         (&["build", "N"], "usage 2\n"),
         (&["build", "N", ""], "usage 2\n"),
-        (&["build", "N", "E", "T"], "usage 3\n"),
-        (&["build", "N", "E", "T", ""], "usage 3\n"),
+        (&["build", "N", "E", ""], "usage 3\n"),
+        (&["build", "N", "E", "T", ""], "usage 4\n"),
         (&["show"], "usage 1\n"),
         (&["session", "E", "F"], "usage 0\n"),
         (&["demo", "0"], "usage 0\n"),
@@ -24,5 +24,23 @@ fn reads_the_words(rt: HostRuntime) -> Result<(), Fail> {
     for (words, line) in stated {
         assert!(rt; left_by(&rt, words, &HELLO)?.gives_up(1, line), "{}", line);
     }
+    Ok(())
+}
+
+/// `build N E` and so many names of traces.
+fn with_traces(rt: &HostRuntime, count: u32) -> Result<Vec<&'static str>, Fail> {
+    let mut words = ["build", "N", "E"].to_vec(rt.alloc())?;
+    for _trace in 0..count {
+        words.push("absent")?;
+    }
+    Ok(words)
+}
+
+#[test]
+fn limits_the_traces_of_build(rt: HostRuntime) -> Result<(), Fail> {
+    let most = with_traces(&rt, 4096)?;
+    assert!(rt; left_by(&rt, &most, &HELLO)?.gives_up(3, "outside shelf\n"));
+    let more = with_traces(&rt, 4097)?;
+    assert!(rt; left_by(&rt, &more, &HELLO)?.gives_up(1, "usage 4099\n"));
     Ok(())
 }

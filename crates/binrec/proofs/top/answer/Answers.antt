@@ -12,6 +12,11 @@ use Rattle.binrec.specs.Words.{Fits}
 use Rattle.binrec.proofs.TopClauses.{answers_as, fits_as}
 use Rattle.binrec.proofs.top.answer.Goals as goal
 
+pub build_command-requires : goal.build_command-requires
+build_command-requires g c =
+    let few : length (map string_bytes c.in-Build.traces.now) ≤ 4096 = fits_as _ _ c.in-Build.is c.requires.fitting in
+    omega (arith, few, length-map c.in-Build.traces.now string_bytes)
+
 pub merge_command-requires : goal.merge_command-requires
 merge_command-requires g c =
     let few : length (map string_bytes c.in-Merge.traces.now) ≤ 4096 = fits_as _ _ c.in-Merge.is c.requires.fitting in
@@ -39,7 +44,7 @@ returns-in-Build g c =
     let s = world (g.F.Shelf.seen c.args.shelf.now) (g.I.Source.seen c.args.input.now) (g.O.Sink.seen c.args.out.now) (g.R.Sink.seen c.args.report.now) in
     let m = world (g.F.Shelf.seen c.build_command.new.shelf) (g.I.Source.seen c.args.input.now) (g.O.Sink.seen c.args.out.now) (g.R.Sink.seen c.args.report.now) in
     let t = world (g.F.Shelf.seen c.build_command.new.shelf) (g.I.Source.seen c.args.input.now) (g.O.Sink.seen c.args.out.now) (g.R.Sink.seen c.tell_end.new.report) in
-    let h : Happened (build_plan c.in-Build.n.now c.in-Build.e.now) s c.tell_end.result t = (end_of c.build_command.result, m, c.build_command.ensures s, (_, c.tell_end.ensures, refl)) in
+    let h : Happened (build_plan c.in-Build.n.now c.in-Build.e.now (map string_bytes c.in-Build.traces.now)) s c.tell_end.result t = (end_of c.build_command.result, m, c.build_command.ensures s, (_, c.tell_end.ensures, refl)) in
     answers_as _ _ c.args.first s _ t c.in-Build.is h
 
 pub returns-in-Merge : goal.returns-in-Merge

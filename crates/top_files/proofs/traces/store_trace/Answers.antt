@@ -1,4 +1,3 @@
-use Rattle.std.proofs.Common.{Ok}
 use Rattle.trace_file.specs.Trace.{trace_bytes}
 use Rattle.top_plan.specs.Plan.{Plan, Stores}
 use Rattle.top_plan.proofs.Passes.{passes_on, memory_ends}
