@@ -98,9 +98,10 @@ module _ (exe : Exe) (es : List Edge) (live : ℕ → ℕ) where
 
   keys_exits : (list : List Added) (ss : List ℕ) → ((s y : ℕ) → Contains ss s → Contains (known_of exe es s) y → is_added list y ≡ true) → AllExits list (map (key_of live) (map node ss))
   keys_exits list [] f = tt
-  keys_exits list (s ∷ ss) f =
-      (exits_from (λ y. is_added list y ≡ true) live (known_of exe es s) (λ y c. f s y (here s ss) c),
-        keys_exits list ss (λ t y h c. f t y (there s t ss h) c))
+  keys_exits list (s ∷ ss) f = (
+    exits_from (λ y. is_added list y ≡ true) live (known_of exe es s) (λ y c. f s y (here s ss) c),
+    keys_exits list ss (λ t y h c. f t y (there s t ss h) c),
+  )
 
   starts_of_nodes : (ss : List ℕ) → starts_in (map node ss) ≡ ss
   starts_of_nodes [] = refl
@@ -134,6 +135,6 @@ module _ (one : OneGraph) (exe : Exe) (edges : List Edge) (guest : IsGuest exe) 
       let same : map (λ (a : Added). a.start) list ≡ starts_of exe es = starts_of_added exe keys ∙ starts_of_keys exe es (live_of exe edges) (starts_of exe es) in
       record {
         targets = keys_added list exe keys (keys_exits exe es (live_of exe edges) list (starts_of exe es) (λ s y h c.
-          ap (λ l. is_among l y) same ∙ among (starts_of exe es) y ((starts.each y).1 (next_start exe es s y ((starts.each s).0 h) c))));
+            ap (λ l. is_among l y) same ∙ among (starts_of exe es) y ((starts.each y).1 (next_start exe es s y ((starts.each s).0 h) c))));
         entry = ap (λ l. is_among l exe.entry) (starts_of_added exe keys);
       }

@@ -186,7 +186,7 @@ module _ (one : EachHasOneBlock) (exe : Exe) (guest : IsGuest exe) (edges : List
       go Transfer e c h =
           let l = code_bounds _ (last_of start is) exe.segments guest.segments (last_code exe start start is h.0 block.stand) in
           last_way exe start start start y is (blank start) h.0 block.stand
-            (target_leads exe (last_of start is) y (omega (arith, l.0)) (target_counts exe (last_of start is) y edges c))
+          (target_leads exe (last_of start is) y (omega (arith, l.0)) (target_counts exe (last_of start is) y edges c))
       go Island e c h = sym (follow_is exe start y (only (follow_of exe start) y c)).is
       go BeforeIsland e c h = let f = follow_is exe start y (only (follow_of exe start) y c) in plain_way is h.0 h.1 block.stand f.is f.code
       go Unreadable e c h = let f = follow_is exe start y (only (follow_of exe start) y c) in absurd (false_true (sym (ap is_followed e) ∙ f.followed))
