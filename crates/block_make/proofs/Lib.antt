@@ -1,0 +1,10 @@
+pub mod Splits
+pub mod Behind
+pub mod Sequence
+pub mod Assembling
+pub mod Validity
+pub mod Counts
+pub mod Fragments
+pub mod Native
+pub mod Distinct
+pub mod Emitted
