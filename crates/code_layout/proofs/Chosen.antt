@@ -1,5 +1,5 @@
 -- The keys of a graph: their starts ascend, and their known exits are starts of keys.
-use Rattle.std.proofs.Common.{◌≡◌, ℕ, zero, suc, ◌+◌, ◌<◌, ◌==◌, Bool, true, false, ◌||◌, List, [], ◌∷◌, length, map, filter, Option, Some, None, Contains, refl, sym, ap, ◌∙◌, subst, arith}
+use Rattle.std.proofs.Common.{◌≡◌, ℕ, zero, suc, ◌==◌, Bool, true, false, ◌||◌, List, [], ◌∷◌, map, filter, Option, Some, None, Contains, refl, sym, ap, ◌∙◌, subst, arith}
 use Rattle.std.specs.Prelude.{option_to_list, if◌then◌else◌}
 use Rattle.std.specs.List.Sorted.{IsStrictlyIncreasing}
 use Rattle.std.proofs.lemmas.Bool.Decides.{nat_tests}
@@ -11,11 +11,10 @@ use Rattle.block_cut.specs.declared.ends.End.TheVariants.{Transfer, Island, Befo
 use Rattle.block_cut.specs.Transfers.{is_among}
 use Rattle.block_cut.specs.CountedEdges.{counting}
 use Rattle.block_cut.specs.Blocks.{last_of, block_of, follow_of}
-use Rattle.flow_graph.specs.Graph.{Leads, IsReached, IsStart, AreStarts, targets_from, known_by, known_of, Node, starts_in}
+use Rattle.flow_graph.specs.Graph.{IsStart, AreStarts, targets_from, known_by, known_of, Node, starts_in}
 use Rattle.flow_graph.specs.GraphOf.{OneGraph, graph_of, starts_of}
 use Rattle.ssa_form.specs.declared.form.BlockKey.{BlockKey}
 use Rattle.code_layout.specs.Keys.{live_of, key_of, keys_of}
-use Rattle.code_layout.specs.Linked.{has_key}
 use Rattle.code_layout.specs.Layout.{Added, is_added, IsWhole, layout_of, added_of}
 use Rattle.code_layout.proofs.Targets.{Exits, AllExits, keys_added}
 

@@ -1,5 +1,5 @@
 -- Each key of a graph is one of which a fragment can be made.
-use Rattle.std.proofs.Common.{◌≡◌, ℕ, zero, suc, ◌+◌, ◌^◌, ◌<◌, ◌≤◌, ◌==◌, Bool, true, false, List, [], ◌∷◌, length, map, Option, Some, None, Contains, All, refl, sym, ap, ◌∙◌, subst, arith, lit<}
+use Rattle.std.proofs.Common.{◌≡◌, ℕ, zero, suc, ◌^◌, ◌<◌, ◌≤◌, ◌==◌, Bool, true, false, List, [], ◌∷◌, length, map, Option, Some, None, Contains, All, refl, sym, subst, arith, lit<}
 use Rattle.std.specs.Prelude.{option_to_list, if◌then◌else◌, IsTrue}
 use Rattle.std.specs.List.Sorted.{IsStrictlyIncreasing}
 use Rattle.std.proofs.lemmas.Bool.Decides.{nat_tests}
@@ -17,7 +17,6 @@ use Rattle.flow_graph.specs.Graph.{targets_from, known_by, known_of, Node}
 use Rattle.flow_graph.specs.GraphOf.{OneGraph, graph_of, starts_of}
 use Rattle.flow_graph.proofs.SiteRuns.{filter_ascends, targets_ascend}
 use Rattle.flow_graph.proofs.Ascending.{From, Up, to_up, no_longer}
-use Rattle.ssa_form.specs.declared.form.BlockKey.{BlockKey}
 use Rattle.lift_flow.specs.LiftedBlock.{lift_of}
 use Rattle.block_make.specs.Keys.{live_at, AreDistinct, IsWayOut, IsKey}
 use Rattle.code_layout.specs.Keys.{live_of, key_of, keys_of}

@@ -6,7 +6,7 @@ use Rattle.br_word.proofs.BitLaws.{length_bytes_of}
 use Rattle.br_word.specs.Memory.{bytes_of}
 use Rattle.ia_encode.specs.Items.{distance}
 use Rattle.block_make.specs.declared.fragment.Fix.{Fix}
-use Rattle.code_layout.specs.Layout.{Added, with_word, target_of, filled, filled_code, filled_from, added_length}
+use Rattle.code_layout.specs.Layout.{Added, with_word, target_of, filled, filled_code, filled_from}
 use Rattle.code_layout.specs.Rows.{forth, bytes_in, fixes_in}
 
 -- a fix lies in so many bytes

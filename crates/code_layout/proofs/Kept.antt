@@ -1,9 +1,9 @@
 -- What a layout keeps shows what was added.
-use Rattle.std.proofs.Common.{◌≡◌, ℕ, zero, suc, ◌+◌, ◌-◌, ◌<◌, ◌≤◌, ◌^◌, Bool, true, false, List, [], ◌∷◌, ◌++◌, length, take, drop, map, get_or, refl, sym, ap, ◌∙◌, subst, inl, inr, arith, All, length-append}
+use Rattle.std.proofs.Common.{◌≡◌, ℕ, ◌+◌, ◌-◌, ◌<◌, ◌≤◌, Bool, false, List, [], ◌∷◌, ◌++◌, length, take, drop, map, get_or, refl, sym, ap, ◌∙◌, subst, inl, inr, arith, All, length-append}
 use Rattle.std.specs.List.Sorted.{IsStrictlyIncreasing}
 use Rattle.std.proofs.lemmas.Bool.{cases_lt}
-use Rattle.std.proofs.lemmas.List.{append_assoc, append-nil, take_at, drop_at, length-map, map-append, get_or_append_left, get_or_push, get_or-map}
-use Rattle.std.proofs.lemmas.List.Elements.{All-nil, All-cons, All-head, All-tail, All-append, All-map, All-get_or}
+use Rattle.std.proofs.lemmas.List.{append_assoc, append-nil, take_at, drop_at, length-map, map-append, get_or_append_left, get_or_push}
+use Rattle.std.proofs.lemmas.List.Elements.{All-map, All-get_or}
 use Rattle.block_make.specs.declared.fragment.Fix.{Fix}
 use Rattle.block_make.specs.FragmentCode.{OpenCode}
 use Rattle.code_layout.specs.declared.place.TheConstants.{MAX_CODE}

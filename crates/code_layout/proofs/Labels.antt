@@ -1,5 +1,5 @@
 -- Each jump of a fragment to a label leads to one that the fragment has.
-use Rattle.std.proofs.Common.{◌≡◌, ℕ, suc, Bool, true, false, ◌||◌, List, [], ◌∷◌, ◌++◌, map, Option, Some, None, nat_eq, refl, ap, ◌∙◌}
+use Rattle.std.proofs.Common.{◌≡◌, ℕ, suc, Bool, true, false, ◌||◌, List, [], ◌∷◌, ◌++◌, map, Option, Some, None, nat_eq, refl}
 use Rattle.std.proofs.lemmas.Bool.{eq-eqb}
 use Rattle.elf_read.specs.declared.exe.Exe.{Exe}
 use Rattle.ia_inst.specs.declared.inst.Inst.{Inst}
@@ -19,7 +19,7 @@ use Rattle.par_moves.specs.Homes.{home_of, register_homes}
 use Rattle.reg_place.specs.Places.{is_in}
 use Rattle.emit_ops.specs.Sequences.{kept, lines_code, moves_code, live_moves, in_order}
 use Rattle.block_make.specs.declared.fragment.TheConstants.{JUMP_SLOT}
-use Rattle.fall_stubs.specs.Exchange.{restore_start, direction_items, restore_rest, restore_items, spill_code, opening_items, capture_code, closing_items, island_items}
+use Rattle.fall_stubs.specs.Exchange.{direction_items, restore_rest, restore_items, spill_code, opening_items, capture_code, closing_items, island_items}
 use Rattle.block_make.specs.Choices.{Choice, choice_of, place_in}
 use Rattle.block_make.specs.Keys.{live_at, has}
 use Rattle.block_make.specs.FragmentItems.{lines_items, moves_items, tail_items, regain_items, stub_items, part_items, cond_items, aim_items, compare_items, tails_items, way_stub_items, dest_of, own_bytes, exit_items, items_of}

@@ -1,5 +1,5 @@
 -- Where the fixes of fragments go.
-use Rattle.std.proofs.Common.{◌≡◌, ℕ, suc, ◌+◌, ◌-◌, ◌≤◌, ◌==◌, Bool, true, false, List, [], ◌∷◌, ◌++◌, length, map, Option, Some, None, refl, sym, ap, ◌∙◌, subst, arith, All}
+use Rattle.std.proofs.Common.{◌≡◌, ℕ, suc, ◌+◌, ◌-◌, ◌≤◌, ◌==◌, Bool, true, false, List, [], ◌∷◌, ◌++◌, length, map, Option, Some, None, refl, subst, arith, All}
 use Rattle.std.specs.Prelude.{if◌then◌else◌}
 use Rattle.std.proofs.lemmas.Bool.Decides.{nat_tests}
 use Rattle.std.proofs.lemmas.List.Elements.{All-nil, All-cons}
@@ -10,7 +10,7 @@ use Rattle.ia_inst.specs.Canonical.{canonical}
 use Rattle.ia_encode.specs.declared.item.Dest.TheVariants as dests
 use Rattle.ia_encode.specs.declared.item.Item.{Item}
 use Rattle.ia_encode.specs.declared.item.Item.TheVariants as item
-use Rattle.ia_encode.specs.Items.{size_of_jump, size_of_item, size_of_items, dest_at}
+use Rattle.ia_encode.specs.Items.{size_of_jump, size_of_items, dest_at}
 use Rattle.ssa_form.specs.declared.form.Val.{Val}
 use Rattle.ssa_form.specs.declared.form.Exit.{Exit}
 use Rattle.ssa_form.specs.declared.form.Exit.TheVariants.{Jump, Cond, Way, Island}
@@ -21,13 +21,13 @@ use Rattle.par_moves.specs.Locations.{rm_of}
 use Rattle.par_moves.specs.Homes.{home_of, register_homes}
 use Rattle.reg_place.specs.Places.{is_in}
 use Rattle.emit_ops.specs.Sequences.{kept, lines_code, moves_code, live_moves, in_order}
-use Rattle.fall_stubs.specs.Exchange.{restore_start, direction_items, restore_rest, restore_items, spill_code, opening_items, capture_code, closing_items, island_items}
+use Rattle.fall_stubs.specs.Exchange.{direction_items, restore_rest, restore_items, spill_code, opening_items, capture_code, closing_items}
 use Rattle.block_make.specs.declared.fragment.TheConstants.{JUMP_SLOT}
 use Rattle.block_make.specs.declared.fragment.Fix.{Fix}
 use Rattle.block_make.specs.Choices.{Choice, choice_of, place_in}
 use Rattle.block_make.specs.Keys.{live_at, has}
-use Rattle.block_make.specs.FragmentItems.{lines_items, moves_items, tail_items, regain_items, stub_items, part_items, cond_items, aim_items, compare_items, tails_items, way_stub_items, dest_of, own_bytes, exit_items, items_of}
-use Rattle.block_make.specs.FragmentCode.{fix_of, fixes_of, coded}
+use Rattle.block_make.specs.FragmentItems.{lines_items, moves_items, tail_items, regain_items, part_items, aim_items, compare_items, tails_items, way_stub_items, dest_of, own_bytes, exit_items, items_of}
+use Rattle.block_make.specs.FragmentCode.{fixes_of, coded}
 use Rattle.code_layout.specs.Layout.{Added, is_added, IsAddedFix, AreAdded, added_of}
 use Rattle.code_layout.proofs.Links.{length_open}
 

@@ -1,5 +1,5 @@
 -- Known exits of a block are ways out of it.
-use Rattle.std.proofs.Common.{◌≡◌, ℕ, zero, suc, ◌+◌, ◌%◌, ◌^◌, ◌<◌, ◌≤◌, ◌==◌, ◌⊎◌, inl, inr, Bool, true, false, ◌||◌, ◌&&◌, List, [], ◌∷◌, length, map, filter, Option, Some, None, Contains, refl, sym, ap, ◌∙◌, subst, arith}
+use Rattle.std.proofs.Common.{◌≡◌, ℕ, zero, suc, ◌+◌, ◌^◌, ◌<◌, ◌≤◌, ◌==◌, ◌⊎◌, inl, inr, Bool, true, false, ◌||◌, ◌&&◌, List, [], ◌∷◌, length, map, filter, Option, Some, None, Contains, refl, sym, ap, ◌∙◌, subst, arith}
 use Rattle.std.specs.Prelude.{nat_le, nat_lt, option_to_list, if◌then◌else◌}
 use Rattle.std.specs.Bool.{then_some}
 use Rattle.std.proofs.lemmas.Bool.Decides.{nat_tests}
@@ -13,21 +13,20 @@ use Rattle.ia_inst.specs.declared.inst.Kind.TheVariants as kinds
 use Rattle.ia_inst.specs.Kinds.{kind_of}
 use Rattle.ia_inst.specs.Meaning.{wrap}
 use Rattle.ia_inst.specs.Instructions.{decode_of}
-use Rattle.ia_inst.specs.Step.{Found, NoCode, NoInst, There, found_from}
+use Rattle.ia_inst.specs.Step.{NoCode, There, found_from}
 use Rattle.ssa_form.specs.declared.form.Val.{Val}
 use Rattle.ssa_form.specs.declared.form.Block.{Block}
-use Rattle.ssa_form.specs.declared.form.Exit.{Exit}
 use Rattle.ssa_form.specs.declared.form.Exit.TheVariants as exits
 use Rattle.lift_alu.specs.Steps.{row_steps}
 use Rattle.lift_alu.specs.Steps.{unnamed}
-use Rattle.lift_alu.specs.Lifted.{row_of, draft_of, Leaving, Onward, leaving_of, exit_by, lifted}
+use Rattle.lift_alu.specs.Lifted.{row_of, draft_of, Onward, leaving_of, exit_by, lifted}
 use Rattle.lift_flow.specs.LiftedBlock.{blank, lifted_all, lifted_to, lift_of}
 use Rattle.run_model.specs.Edges.{Edge}
 use Rattle.block_cut.specs.declared.ends.End.{End}
 use Rattle.block_cut.specs.declared.ends.End.TheVariants.{Transfer, Island, BeforeIsland, Unreadable, Full}
 use Rattle.block_cut.specs.Places.{Placed, found_at}
 use Rattle.block_cut.specs.Transfers.{is_indirect, is_among, direct_targets, leads_by, leads_to}
-use Rattle.block_cut.specs.CountedEdges.{is_beginning, counts, counting}
+use Rattle.block_cut.specs.CountedEdges.{counts, counting}
 use Rattle.block_cut.specs.Blocks.{size_of, last_of, StandFrom, ArePlain, EndWith, EndsSo, IsBlock, block_of, is_followed, next_of, follow_of, EachHasOneBlock}
 use Rattle.block_cut.proofs.Unique.{size_cons}
 use Rattle.flow_graph.specs.Graph.{targets_from, known_by, known_of}

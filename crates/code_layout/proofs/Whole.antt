@@ -2,16 +2,16 @@
 use Rattle.std.proofs.Common.{◌≡◌, ℕ, ◌+◌, ◌<◌, ◌≤◌, ◌^◌, Bool, true, false, List, [], ◌∷◌, ◌++◌, length, take, drop, map, refl, sym, ap, ◌∙◌, subst, arith, All}
 use Rattle.std.specs.Prelude.{◌==◌, if◌then◌else◌}
 use Rattle.std.specs.List.Sorted.{IsStrictlyIncreasing}
-use Rattle.std.proofs.lemmas.List.{take_at, length-map}
+use Rattle.std.proofs.lemmas.List.{take_at}
 use Rattle.std.proofs.lemmas.List.Elements.{All-nil, All-cons, All-append, All-map, All-weaker, All-same}
 use Rattle.block_cut.specs.Transfers.{is_among}
 use Rattle.block_make.specs.declared.fragment.Fix.{Fix}
 use Rattle.block_make.specs.FragmentCode.{code_of_items}
-use Rattle.code_layout.specs.declared.place.TheConstants.{CODE_START, MAX_CODE}
+use Rattle.code_layout.specs.declared.place.TheConstants.{CODE_START}
 use Rattle.code_layout.specs.declared.rows.Row.{Row}
 use Rattle.code_layout.specs.Linked.{entry_items}
-use Rattle.code_layout.specs.Layout.{Added, LayoutView, entry_code, added_length, code_length, added_at, added_from, filled, layout_code, is_added, IsAddedFix, AreAdded, IsWhole}
-use Rattle.code_layout.specs.Rows.{forth, bytes_in, fixes_in, row_for, rows_in, row_starts, row_address, IsFillable, IsKept}
+use Rattle.code_layout.specs.Layout.{Added, LayoutView, entry_code, added_length, added_at, added_from, filled, layout_code, is_added, IsAddedFix, AreAdded, IsWhole}
+use Rattle.code_layout.specs.Rows.{forth, fixes_in, row_for, rows_in, row_starts, row_address, IsFillable, IsKept}
 use Rattle.code_layout.proofs.Fills.{IsInside, AreInside, filled_all, filled_same}
 use Rattle.code_layout.proofs.Kept.{kept_length}
 

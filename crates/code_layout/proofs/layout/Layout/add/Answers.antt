@@ -1,5 +1,4 @@
-use Rattle.std.proofs.Common.{◌≡◌, ℕ, ◌+◌, ◌<◌, ◌≤◌, Bool, false, List, [], ◌∷◌, ◌++◌, map, length, All, ap, sym, ◌∙◌, subst, refl, arith}
-use Rattle.code_layout.specs.declared.error.LayoutError.TheVariants.{TooLong, Memory}
+use Rattle.std.proofs.Common.{◌≡◌, ◌<◌, Bool, false, List, [], ◌∷◌, ◌++◌, map, length, All, ap, sym, ◌∙◌, subst, refl, arith}
 use Rattle.code_layout.specs.Layout.{Added, LayoutView, code_length, with_added}
 use Rattle.code_layout.specs.Rows.{forth, row_for, added_in}
 use Rattle.code_layout.proofs.Kept.{kept_length, with_length, view_by, kept_again, added_again}

@@ -1,14 +1,14 @@
-use Rattle.std.proofs.Common.{◌≡◌, ℕ, ◌+◌, ◌<◌, ◌≤◌, ◌^◌, Bool, false, List, length, take, drop, ◌++◌, All, ap, sym, ◌∙◌, subst, arith}
+use Rattle.std.proofs.Common.{◌≡◌, ℕ, ◌+◌, ◌<◌, ◌^◌, Bool, false, List, length, All, ap, sym, ◌∙◌, subst, arith}
 use Rattle.std.specs.List.Sorted.{IsStrictlyIncreasing}
 use Rattle.block_make.specs.declared.fragment.Fix.{Fix}
 use Rattle.code_layout.specs.declared.place.TheConstants.{CODE_START}
 use Rattle.code_layout.specs.declared.built.Built.{Built}
 use Rattle.code_layout.specs.declared.rows.Row.{Row}
 use Rattle.code_layout.specs.Image.{image_with}
-use Rattle.code_layout.specs.Layout.{Added, LayoutView, IsWhole, code_length, layout_code, filled}
-use Rattle.code_layout.specs.Rows.{row_starts, row_address, IsFillable}
+use Rattle.code_layout.specs.Layout.{LayoutView, IsWhole, code_length, layout_code, filled}
+use Rattle.code_layout.specs.Rows.{row_starts, row_address}
 use Rattle.code_layout.proofs.Kept.{kept_length, view_by}
-use Rattle.code_layout.proofs.Whole.{kept_order, kept_low, kept_short, kept_fixes, kept_filled, kept_count, entry_some, written_over}
+use Rattle.code_layout.proofs.Whole.{kept_order, kept_low, kept_short, kept_fixes, kept_filled, kept_count, written_over}
 use Rattle.code_layout.proofs.layout.Layout.image.Goals as goal
 
 pub fill-requires-clause-order : goal.fill-requires-clause-order
