@@ -1,8 +1,7 @@
 -- Filling in the distances of fragments gives the code of their items.
-use Rattle.std.proofs.Common.{◌≡◌, ℕ, suc, ◌+◌, ◌-◌, ◌^◌, Bool, true, false, ◌||◌, List, [], ◌∷◌, ◌++◌, length, map, Option, Some, None, refl, sym, ap, ◌∙◌, arith, All, length-append}
+use Rattle.std.proofs.Common.{◌≡◌, ℕ, ◌+◌, ◌-◌, ◌^◌, Bool, true, false, ◌||◌, List, [], ◌∷◌, ◌++◌, length, Option, Some, None, refl, sym, ap, ◌∙◌, arith, length-append}
 use Rattle.std.specs.Prelude.{◌==◌, if◌then◌else◌}
 use Rattle.std.proofs.lemmas.List.{append_assoc}
-use Rattle.std.proofs.lemmas.List.Elements.{All-nil, All-cons, All-append, All-weaker}
 use Rattle.br_word.specs.Memory.{bytes_of}
 use Rattle.elf_read.specs.declared.exe.Exe.{Exe}
 use Rattle.ia_inst.specs.Meaning.{wrap}
@@ -13,13 +12,12 @@ use Rattle.ia_encode.specs.declared.item.Item.{Item}
 use Rattle.ia_encode.specs.declared.item.Item.TheVariants as item
 use Rattle.ia_encode.specs.Items.{jump_inst, size_of_jump, size_of_item, size_of_items, bytes_of_item, bytes_of_items, distance, dest_at, is_label, label_at}
 use Rattle.ssa_form.specs.declared.form.BlockKey.{BlockKey}
-use Rattle.block_make.specs.declared.fragment.Fix.{Fix}
 use Rattle.block_make.specs.FragmentItems.{items_of}
 use Rattle.block_make.specs.FragmentCode.{open_bytes, open_items, fix_of, fixes_of, code_of_items, coded}
 use Rattle.code_layout.specs.declared.place.TheConstants.{CODE_START}
-use Rattle.code_layout.specs.Linked.{Fragment, entry_items, address_in, bytes_at, bytes_from, first_at, linked, fragments_of, has_key, code_of_keys}
-use Rattle.code_layout.specs.Layout.{Added, with_word, target_of, filled, filled_code, filled_from, added_length, added_at, code_length, layout_code, layout_of, added_of}
-use Rattle.code_layout.proofs.Fills.{IsInside, word_front, filled_append, filled_same}
+use Rattle.code_layout.specs.Linked.{entry_items, address_in, bytes_at, bytes_from, first_at, linked, fragments_of, has_key, code_of_keys}
+use Rattle.code_layout.specs.Layout.{Added, with_word, filled, filled_code, filled_from, added_length, added_at, code_length, layout_code, layout_of, added_of}
+use Rattle.code_layout.proofs.Fills.{word_front, filled_append, filled_same}
 use Rattle.code_layout.proofs.Labels.{has_label, Resolved, Closed, fragment_closed, entry_closed}
 
 -- ---- sizes
@@ -133,8 +131,8 @@ module _ (exe : Exe) where
   same_addresses at [] y = refl
   same_addresses at (key ∷ keys) y =
       ap (λ r. if key.start == y then at else r) (
-        ap (λ n. added_at (at + n) (added_of exe keys) y) (length_coded key)
-        ∙ same_addresses (at + size_of_items (items_of exe key)) keys y)
+      ap (λ n. added_at (at + n) (added_of exe keys) y) (length_coded key)
+      ∙ same_addresses (at + size_of_items (items_of exe key)) keys y)
 
   from_same : (address : ℕ → ℕ) (at : ℕ) (keys : List BlockKey) → filled_from address at (added_of exe keys) ≡ bytes_from address at (fragments_of exe keys)
   from_same address at [] = refl

@@ -1,4 +1,4 @@
-use Rattle.std.proofs.Common.{◌≡◌, length, drop}
+use Rattle.std.proofs.Common.{◌≡◌, drop}
 use Rattle.code_layout.specs.declared.place.TheConstants.{CODE_START}
 use Rattle.code_layout.specs.Layout.{filled}
 use Rattle.code_layout.specs.Rows.{row_address}
