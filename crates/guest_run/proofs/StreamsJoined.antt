@@ -113,7 +113,7 @@ part_then a b c t u v p q =
     let P : List ℕ → Type 0 = λ x. WasGiven x a c in
     let rest : drop (length (t ++ u)) (t ++ v) ≡ drop (length u) v = ap (λ n. drop n (t ++ v)) (length-append t u) ∙ drop-append-add t v (length u) in
     let whole : (t ++ u) ++ take q.more (drop (length (t ++ u)) (t ++ v)) ≡ t ++ (u ++ take q.more (drop (length u) v)) =
-        ap (λ x. (t ++ u) ++ take q.more x) rest ∙ append_assoc t u (take q.more (drop (length u) v)) in
+    ap (λ x. (t ++ u) ++ take q.more x) rest ∙ append_assoc t u (take q.more (drop (length u) v)) in
     record { more = q.more; given = subst P (sym whole) (given_then a b c t (u ++ take q.more (drop (length u) v)) p q.given) }
 
 gained_then : (a b c : StreamView) (t u v : List ℕ) → Gains t a b → PartGained u v b c → PartGained (t ++ u) (t ++ v) a c

@@ -31,4 +31,4 @@ pub record IsUnder (rows : List LiveRow) (sets queue : List ℕ) : Type 0 where
   pub sound : (k v : ℕ) → In sets k v → is_live rows k v ≡ true
   pub needed : (k v : ℕ) → k < length rows → needed_at (row_at rows k) v ≡ true → In sets k v
   pub handed : (p j v : ℕ) → p < length rows → IsAmong (ways rows p) j → hands rows p v ≡ true → In sets j v →
-    IsAmong queue j ⊎ In sets p v
+      IsAmong queue j ⊎ In sets p v

@@ -25,7 +25,11 @@ fn refuses_damaged_traces_of_build(rt: HostRuntime) -> Result<(), Fail> {
             }
         }
         let line = format!(in alloc; "refused word 3 {end}")?;
-        assert!(rt; left_by_trace(&rt, &words, &file)?.gives_up(2, line.as_str()), "{}", end);
+        assert!(rt;
+            left_by_trace(&rt, &words, &file)?.gives_up(2, line.as_str()),
+            "{}",
+            end
+        );
         let second = [("E", HELLO.as_slice()), ("T", &TRACE), ("U", &file)];
         let line = format!(in alloc; "refused word 4 {end}")?;
         let left = left_of(&rt, &["build", "N", "E", "T", "U"], &second)?;
