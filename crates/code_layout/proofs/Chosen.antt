@@ -19,10 +19,10 @@ use Rattle.code_layout.specs.Linked.{has_key}
 use Rattle.code_layout.specs.Layout.{Added, is_added, IsWhole, layout_of, added_of}
 use Rattle.code_layout.proofs.Targets.{Exits, AllExits, keys_added}
 
-here : {X : Type 0} (x : X) (xs : List X) → Contains (x ∷ xs) x
+pub here : {X : Type 0} (x : X) (xs : List X) → Contains (x ∷ xs) x
 here x xs = (0, omega arith, refl)
 
-there : {X : Type 0} (y x : X) (xs : List X) → Contains xs x → Contains (y ∷ xs) x
+pub there : {X : Type 0} (y x : X) (xs : List X) → Contains xs x → Contains (y ∷ xs) x
 there y x xs h = (suc h.0, let l = h.1 in omega (arith, l), h.2)
 
 -- ---- what is contained
@@ -67,7 +67,7 @@ only (Some t) y (suc k, l, e) = absurd (omega (arith, l))
 
 module _ (exe : Exe) (es : List Edge) where
   -- a known exit of a start is a start
-  next_start : (s y : ℕ) → IsStart exe es s → Contains (known_of exe es s) y → IsStart exe es y
+  pub next_start : (s y : ℕ) → IsStart exe es s → Contains (known_of exe es s) y → IsStart exe es y
   unfolding known_of
   next_start s y h c = go (block_of exe s).end c
     where
@@ -98,9 +98,10 @@ module _ (exe : Exe) (es : List Edge) (live : ℕ → ℕ) where
 
   keys_exits : (list : List Added) (ss : List ℕ) → ((s y : ℕ) → Contains ss s → Contains (known_of exe es s) y → is_added list y ≡ true) → AllExits list (map (key_of live) (map node ss))
   keys_exits list [] f = tt
-  keys_exits list (s ∷ ss) f =
-      (exits_from (λ y. is_added list y ≡ true) live (known_of exe es s) (λ y c. f s y (here s ss) c),
-        keys_exits list ss (λ t y h c. f t y (there s t ss h) c))
+  keys_exits list (s ∷ ss) f = (
+    exits_from (λ y. is_added list y ≡ true) live (known_of exe es s) (λ y c. f s y (here s ss) c),
+    keys_exits list ss (λ t y h c. f t y (there s t ss h) c),
+  )
 
   starts_of_nodes : (ss : List ℕ) → starts_in (map node ss) ≡ ss
   starts_of_nodes [] = refl
@@ -118,7 +119,7 @@ module _ (one : OneGraph) (exe : Exe) (edges : List Edge) (guest : IsGuest exe) 
   abbrev es : List Edge
   es = counting exe edges
 
-  starts : AreStarts exe es (starts_of exe es)
+  pub starts : AreStarts exe es (starts_of exe es)
   unfolding graph_of
   starts = subst (AreStarts exe es) (starts_of_nodes exe es (live_of exe edges) (starts_of exe es)) (one.starts exe edges guest)
 
@@ -134,6 +135,6 @@ module _ (one : OneGraph) (exe : Exe) (edges : List Edge) (guest : IsGuest exe) 
       let same : map (λ (a : Added). a.start) list ≡ starts_of exe es = starts_of_added exe keys ∙ starts_of_keys exe es (live_of exe edges) (starts_of exe es) in
       record {
         targets = keys_added list exe keys (keys_exits exe es (live_of exe edges) list (starts_of exe es) (λ s y h c.
-          ap (λ l. is_among l y) same ∙ among (starts_of exe es) y ((starts.each y).1 (next_start exe es s y ((starts.each s).0 h) c))));
+            ap (λ l. is_among l y) same ∙ among (starts_of exe es) y ((starts.each y).1 (next_start exe es s y ((starts.each s).0 h) c))));
         entry = ap (λ l. is_among l exe.entry) (starts_of_added exe keys);
       }

@@ -83,8 +83,8 @@ module _ (address : ℕ → ℕ) where
       let s : at + (n + length a.code.bytes) ≡ at + n + length a.code.bytes = omega arith in
       filled_append at (map (forth n) a.code.fixes) rest (front ++ (a.code.bytes ++ bytes_in more))
       ∙ ap (filled address at rest) (filled_front at n a.code.fixes front (a.code.bytes ++ bytes_in more) e
-        ∙ ap (λ z. front ++ z) (filled_left (at + n) a.code.fixes a.code.bytes (bytes_in more) h.0)
-        ∙ sym (append_assoc front first (bytes_in more)))
+      ∙ ap (λ z. front ++ z) (filled_left (at + n) a.code.fixes a.code.bytes (bytes_in more) h.0)
+      ∙ sym (append_assoc front first (bytes_in more)))
       ∙ filled_added at (n + length a.code.bytes) (front ++ first) more (omega (arith, length-append front first, l, e)) h.1
       ∙ ap (λ i. (front ++ first) ++ filled_from address i more) s
       ∙ append_assoc front first (filled_from address (at + n + length a.code.bytes) more)

@@ -24,11 +24,11 @@ shows_one a at from front behind before after e f =
     let made : List ℕ → List Fix → Added = λ b x. record { start = a.start; code = record { bytes = b; fixes = x } } in
     let fs = map (forth at) a.code.fixes in
     let bytes : take (length a.code.bytes) (drop at (front ++ (a.code.bytes ++ behind))) ≡ a.code.bytes =
-      ap (take (length a.code.bytes)) (drop_at front (a.code.bytes ++ behind) at e) ∙ take_at a.code.bytes behind (length a.code.bytes) refl in
+    ap (take (length a.code.bytes)) (drop_at front (a.code.bytes ++ behind) at e) ∙ take_at a.code.bytes behind (length a.code.bytes) refl in
     let fixes : map (back at) (take (length a.code.fixes) (drop from (before ++ (fs ++ after)))) ≡ a.code.fixes =
-      ap (λ l. map (back at) (take (length a.code.fixes) l)) (drop_at before (fs ++ after) from f)
-      ∙ ap (map (back at)) (take_at fs after (length a.code.fixes) (length-map a.code.fixes (forth at)))
-      ∙ back_forth at a.code.fixes in
+    ap (λ l. map (back at) (take (length a.code.fixes) l)) (drop_at before (fs ++ after) from f)
+    ∙ ap (map (back at)) (take_at fs after (length a.code.fixes) (length-map a.code.fixes (forth at)))
+    ∙ back_forth at a.code.fixes in
     ap (λ b. made b (map (back at) (take (length a.code.fixes) (drop from (before ++ (fs ++ after)))))) bytes ∙ ap (made a.code.bytes) fixes
 
 pub shows : (at from : ℕ) (front : List ℕ) (before : List Fix) (added : List Added) → length front ≡ at → length before ≡ from → added_in (front ++ bytes_in added) (before ++ fixes_in at added) (rows_in at from added) ≡ added
@@ -40,9 +40,9 @@ shows at from front before (a ∷ more) e f =
     let bytes = front ++ (a.code.bytes ++ bytes_in more) in
     ap (λ x. x ∷ added_in bytes (before ++ (fs ++ rest)) rows) (shows_one a at from front (bytes_in more) before rest e f)
     ∙ ap (λ l. a ∷ l) (
-      ap (λ c. added_in c (before ++ (fs ++ rest)) rows) (sym (append_assoc front a.code.bytes (bytes_in more)))
-      ∙ ap (λ x. added_in ((front ++ a.code.bytes) ++ bytes_in more) x rows) (sym (append_assoc before fs rest))
-      ∙ shows (at + length a.code.bytes) (from + length a.code.fixes) (front ++ a.code.bytes) (before ++ fs) more (omega (arith, length-append front a.code.bytes, e)) (omega (arith, length-append before fs, length-map a.code.fixes (forth at), f)))
+    ap (λ c. added_in c (before ++ (fs ++ rest)) rows) (sym (append_assoc front a.code.bytes (bytes_in more)))
+    ∙ ap (λ x. added_in ((front ++ a.code.bytes) ++ bytes_in more) x rows) (sym (append_assoc before fs rest))
+    ∙ shows (at + length a.code.bytes) (from + length a.code.fixes) (front ++ a.code.bytes) (before ++ fs) more (omega (arith, length-append front a.code.bytes, e)) (omega (arith, length-append before fs, length-map a.code.fixes (forth at), f)))
 
 pub kept_shows : (v : LayoutView) (code : List ℕ) (fixes : List Fix) (rows : List Row) → IsKept v code fixes rows → added_in code fixes rows ≡ v.added
 kept_shows v code fixes rows k =

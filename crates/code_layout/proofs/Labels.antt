@@ -138,18 +138,20 @@ module _ (c : Choice) where
   cond : (test : Val) (next taken : List Item) → Closed next → Closed taken → Closed (cond_items c test next taken)
   cond test next taken h k =
       let behind = item.Label 2 ∷ taken in
-      let all = cond_items c test next taken in
-      (in_right next behind 2 refl,
+      let all = cond_items c test next taken in (
+        in_right next behind 2 refl,
         both all next behind
-          (wider next all next (λ l e. in_left next behind l e) h)
-          (wider taken all taken (λ l e. in_right next behind l (in_rest (item.Label 2) taken l e)) k))
+            (wider next all next (λ l e. in_left next behind l e) h)
+            (wider taken all taken (λ l e. in_right next behind l (in_rest (item.Label 2) taken l e)) k),
+      )
 
   compare : (all : List Item) (label : ℕ) (es : List (ℕ × ℕ)) → Within (tails_items c label es) all → Resolved all (compare_items label es)
   compare all label [] f = tt
   compare all label (e ∷ es) f =
-      let more = tail_items c e.1 e.0 in
-      (f label (or_left (nat_eq label label) (has_label label (more ++ tails_items c (suc label) es)) (eq-eqb label label refl)),
-        compare all (suc label) es (λ l h. f l (in_rest (item.Label label) (more ++ tails_items c (suc label) es) l (in_right more (tails_items c (suc label) es) l h))))
+      let more = tail_items c e.1 e.0 in (
+        f label (or_left (nat_eq label label) (has_label label (more ++ tails_items c (suc label) es)) (eq-eqb label label refl)),
+        compare all (suc label) es (λ l h. f l (in_rest (item.Label label) (more ++ tails_items c (suc label) es) l (in_right more (tails_items c (suc label) es) l h))),
+      )
 
   tails : (label : ℕ) (es : List (ℕ × ℕ)) → Closed (tails_items c label es)
   tails label [] = tt
@@ -170,8 +172,8 @@ module _ (c : Choice) where
       let all = aim_items c v ++ (compare_items 1 es ++ most) in
       let there : Within most all = in_right (compare_items 1 es) most in
       both all (compare_items 1 es) most
-        (compare all 1 es (λ l h. there l (in_right stubs ends l h)))
-        (wider most all most there (closed_both stubs ends (way_stub v) (tails 1 es)))
+      (compare all 1 es (λ l h. there l (in_right stubs ends l h)))
+      (wider most all most there (closed_both stubs ends (way_stub v) (tails 1 es)))
 
 captured : (more : List Item) → Closed more → Closed (map item.Inst (capture_code register_homes) ++ more)
 captured more h = closed_both (map item.Inst (capture_code register_homes)) more (insts (map item.Inst (capture_code register_homes)) (capture_code register_homes)) h

@@ -7,3 +7,5 @@ pub mod Labels
 pub mod Links
 pub mod Targets
 pub mod Chosen
+pub mod Ways
+pub mod Each

@@ -133,8 +133,8 @@ module _ (exe : Exe) where
   same_addresses at [] y = refl
   same_addresses at (key ∷ keys) y =
       ap (λ r. if key.start == y then at else r) (
-        ap (λ n. added_at (at + n) (added_of exe keys) y) (length_coded key)
-        ∙ same_addresses (at + size_of_items (items_of exe key)) keys y)
+      ap (λ n. added_at (at + n) (added_of exe keys) y) (length_coded key)
+      ∙ same_addresses (at + size_of_items (items_of exe key)) keys y)
 
   from_same : (address : ℕ → ℕ) (at : ℕ) (keys : List BlockKey) → filled_from address at (added_of exe keys) ≡ bytes_from address at (fragments_of exe keys)
   from_same address at [] = refl

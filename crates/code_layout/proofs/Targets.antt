@@ -77,8 +77,8 @@ module _ (P : ℕ → Type 0) where
     regain : (label : ℕ) → Blocks (regain_items c label)
     regain label =
         both (lines_items c c.split.sunk) (moves_items c (λ v. true) ++ opening_items register_homes label) (insts (lines_code home_of (place_in c) (kept (is_in c.split.sunk) (rows c.block))))
-          (both (moves_items c (λ v. true)) (opening_items register_homes label) (insts (moves_code (in_order (live_moves home_of (place_in c) (λ v. true) 0 c.block.outs))))
-            (both (map item.Inst (spill_code register_homes)) (restore_items label) (insts (spill_code register_homes)) (both (direction_items label) (map item.Inst restore_rest) tt (insts restore_rest))))
+        (both (moves_items c (λ v. true)) (opening_items register_homes label) (insts (moves_code (in_order (live_moves home_of (place_in c) (λ v. true) 0 c.block.outs))))
+        (both (map item.Inst (spill_code register_homes)) (restore_items label) (insts (spill_code register_homes)) (both (direction_items label) (map item.Inst restore_rest) tt (insts restore_rest))))
 
     tail : (set y : ℕ) → P y → Blocks (tail_items c set y)
     tail set y p = both (moves_items c (has set)) (item.Jump None (dests.Block y) ∷ []) (insts (moves_code (in_order (live_moves home_of (place_in c) (has set) 0 c.block.outs)))) (p, tt)
@@ -105,20 +105,20 @@ module _ (P : ℕ → Type 0) where
     way : (v : Val) → Blocks (aim_items c v ++ (compare_items 1 es ++ (way_stub_items c v ++ tails_items c 1 es)))
     way v =
         both (compare_items 1 es) (way_stub_items c v ++ tails_items c 1 es) (compare 1 es)
-          (both (way_stub_items c v) (tails_items c 1 es) (both (regain_items c 0) (item.Inst (JmpRm (rm_of (Slot JUMP_SLOT))) ∷ []) (regain 0) tt) (tails 1 es h))
+        (both (way_stub_items c v) (tails_items c 1 es) (both (regain_items c 0) (item.Inst (JmpRm (rm_of (Slot JUMP_SLOT))) ∷ []) (regain 0) tt) (tails 1 es h))
 
   exits : (exe : Exe) (key : BlockKey) (c : Choice) (exit : Exit) → Exits key.exits → Blocks (exit_items exe key c exit)
   exits exe key c (Jump to) h = part key.exits h c 0 to (live_at key.exits to) (λ set e. among key.exits to set h e)
   exits exe key c (Cond test taken next) h =
       both (part_items c 0 next (live_at key.exits next)) (item.Label 2 ∷ part_items c 1 taken (live_at key.exits taken))
-        (part key.exits h c 0 next (live_at key.exits next) (λ set e. among key.exits next set h e))
-        (part key.exits h c 1 taken (live_at key.exits taken) (λ set e. among key.exits taken set h e))
+      (part key.exits h c 0 next (live_at key.exits next) (λ set e. among key.exits next set h e))
+      (part key.exits h c 1 taken (live_at key.exits taken) (λ set e. among key.exits taken set h e))
   exits exe key c (Way v) h = way key.exits h c v
   exits exe key c (Island len) h =
       let y = key.start + len in
       let last = closing_items register_homes (dest_of y (live_at key.exits y)) in
       both (opening_items register_homes 0) (map item.Byte (own_bytes exe key.start len) ++ last) (opening key.exits h c)
-        (both (map item.Byte (own_bytes exe key.start len)) last (bytes (own_bytes exe key.start len)) (closing key.exits h c y (live_at key.exits y) (λ set e. among key.exits y set h e)))
+      (both (map item.Byte (own_bytes exe key.start len)) last (bytes (own_bytes exe key.start len)) (closing key.exits h c y (live_at key.exits y) (λ set e. among key.exits y set h e)))
 
   pub fragment_blocks : (exe : Exe) (key : BlockKey) → Exits key.exits → Blocks (items_of exe key)
   unfolding items_of

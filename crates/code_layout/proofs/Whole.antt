@@ -36,8 +36,8 @@ fixes_fillable : (rows : List Row) (n at : ℕ) (list added : List Added) → at
 fixes_fillable rows n at list [] l there h = All-nil (IsFillable rows n)
 fixes_fillable rows n at list (a ∷ more) l there h =
     All-append (IsFillable rows n) (map (forth at) a.code.fixes) (fixes_in (at + length a.code.bytes) more)
-      (All-map (IsFillable rows n) (forth at) a.code.fixes (All-weaker (IsAddedFix list (length a.code.bytes)) (λ f. IsFillable rows n (forth at f)) one a.code.fixes h.0))
-      (fixes_fillable rows n (at + length a.code.bytes) list more (omega arith) there h.1)
+    (All-map (IsFillable rows n) (forth at) a.code.fixes (All-weaker (IsAddedFix list (length a.code.bytes)) (λ f. IsFillable rows n (forth at f)) one a.code.fixes h.0))
+    (fixes_fillable rows n (at + length a.code.bytes) list more (omega arith) there h.1)
   where
     one : (f : Fix) → IsAddedFix list (length a.code.bytes) f → IsFillable rows n (forth at f)
     one f i = record { inside = (let s = i.inside in omega arith); there = λ e. there f.target (i.there e) }
@@ -86,9 +86,9 @@ module _ (v : LayoutView) (code : List ℕ) (fixes : List Fix) (rows : List Row)
         let n = kept_length v code fixes rows k in
         let e = entry_code v in
         All-same (IsFillable rows (length code)) fixes (e.fixes ++ fixes_in (length e.bytes) v.added) k.fixes_are
-          (All-append (IsFillable rows (length code)) e.fixes (fixes_in (length e.bytes) v.added)
-            (entry_fillable v.entry v.known rows (length code) (omega arith) (λ s. has_row v.entry (w.entry ∙ s)))
-            (fixes_fillable rows (length code) (length e.bytes) v.added v.added (omega arith) has_row w.targets))
+        (All-append (IsFillable rows (length code)) e.fixes (fixes_in (length e.bytes) v.added)
+        (entry_fillable v.entry v.known rows (length code) (omega arith) (λ s. has_row v.entry (w.entry ∙ s)))
+        (fixes_fillable rows (length code) (length e.bytes) v.added v.added (omega arith) has_row w.targets))
 
     pub kept_filled : filled (row_address rows) CODE_START fixes code ≡ layout_code v
     unfolding layout_code

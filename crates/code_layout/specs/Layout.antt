@@ -7,7 +7,11 @@ use Rattle.elf_read.specs.Elf.{IsGuest}
 use Rattle.run_model.specs.Edges.{Edge}
 use Rattle.ia_encode.specs.Items.{distance}
 use Rattle.block_cut.specs.Transfers.{is_among}
+use Rattle.trace_file.specs.Edges.{ascends}
+use Rattle.flow_graph.specs.declared.error.TheConstants.{MAX_BLOCKS}
+use Rattle.flow_graph.specs.GraphOf.{graph_of}
 use Rattle.ssa_form.specs.declared.form.BlockKey.{BlockKey}
+use Rattle.block_make.specs.Keys.{IsKey}
 use Rattle.block_make.specs.declared.fragment.Fix.{Fix}
 use Rattle.block_make.specs.FragmentCode.{OpenCode, code_of_items, coded}
 use Rattle.code_layout.specs.declared.place.TheConstants.{CODE_START, MAX_CODE}
@@ -123,7 +127,10 @@ pub record LayoutLinks : Type 0 where
       → layout_code (layout_of exe keys) ≡ code_of_keys exe keys
   pub length_is : (exe : Exe) (keys : List BlockKey) → length (code_of_keys exe keys) ≡ code_length (layout_of exe keys)
 
--- The keys of a graph ascend by their starts, and their fragments make a whole layout: each known fix goes to the start of a key.
-pub record KeysAreWhole : Type 0 where
+-- The keys of a graph ascend by their starts, and their fragments make a whole layout: each known fix goes to the start of a key. Of
+-- edges in order, not too many, a fragment can be made of each key.
+pub record KeysAreKeys : Type 0 where
   pub ascend : (exe : Exe) (edges : List Edge) → IsGuest exe → IsStrictlyIncreasing (map (λ (key : BlockKey). key.start) (keys_of exe edges))
   pub whole : (exe : Exe) (edges : List Edge) → IsGuest exe → IsWhole (layout_of exe (keys_of exe edges))
+  pub each : (exe : Exe) (edges : List Edge) → IsGuest exe → ascends edges ≡ true → length (graph_of exe edges) ≤ MAX_BLOCKS
+      → All (IsKey exe) (keys_of exe edges)

@@ -1,7 +1,8 @@
 //! Laws of recovered code.
 ghost use Rattle.code_layout.specs.Image.{EmptyImage};
-ghost use Rattle.code_layout.specs.Layout.{LayoutLinks, KeysAreWhole};
+ghost use Rattle.code_layout.specs.Layout.{LayoutLinks, KeysAreKeys};
 
+use block_cut::one_block;
 use flow_graph::one_graph;
 
 /// Where the fragments of keys were added to a layout, filling in the distances gives the code of the keys, and so much was counted.
@@ -15,9 +16,10 @@ pub fn empty_image()
     ensures { EmptyImage }
 {}
 
-/// The keys of a graph ascend by their starts, and their fragments make a layout that is whole.
-pub fn keys_are_whole()
-    ensures { KeysAreWhole }
+/// The keys of a graph ascend by their starts, and their fragments make a layout that is whole; of each key a fragment can be made.
+pub fn keys_are_keys()
+    ensures { KeysAreKeys }
 {
     one_graph();
+    one_block();
 }

@@ -85,7 +85,13 @@ impl<L> Layout<L> {
             return Err(LayoutError::TooLong);
         }
         self.spent = true;
-        match append(&mut self.code, &mut self.fixes, &mut self.rows, start, fragment) {
+        match append(
+            &mut self.code,
+            &mut self.fixes,
+            &mut self.rows,
+            start,
+            fragment,
+        ) {
             Ok(()) => self.spent = false,
             Err(_) => return Err(LayoutError::Memory),
         }

@@ -18,6 +18,6 @@ pub use built::{BuildError, Built};
 pub use emitted::Emitted;
 pub use error::LayoutError;
 pub use keys::keys_of;
-pub use laws::{empty_image, keys_are_whole, layout_links};
+pub use laws::{empty_image, keys_are_keys, layout_links};
 pub use layout::Layout;
 pub use place::{CODE_START, MAX_CODE, PRIVATE_SIZE, PRIVATE_START};

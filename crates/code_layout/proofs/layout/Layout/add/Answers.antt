@@ -29,11 +29,11 @@ invariant_of-self g c =
     let n : i.code.len ≡ length i.code.items = omega (arith, i.code.ok.0) in
     let m : i.fixes.len ≡ length i.fixes.items = omega (arith, i.fixes.ok.0) in
     λ e. kept_again i.entry i.known i.code.items i.fixes.items i.rows.items c.args.start f k
-      (subst P (sym c.self.view_is) c.requires.order)
-      (omega (arith, k.short, with_length (view_by i.entry i.known i.code.items i.fixes.items i.rows.items) c.args.start f, kept_length _ _ _ _ k, n, c.len-2.ensures, c.len.ensures, c.if-len.false))
-      _ _ _ c.in-Ok.ensures.code
-      (c.in-Ok.ensures.fixes ∙ ap (λ j. i.fixes.items ++ map (forth j) f.fixes) n)
-      (c.in-Ok.ensures.rows ∙ ap (λ j. i.rows.items ++ (row_for c.args.start j i.fixes.len f ∷ [])) n ∙ ap (λ j. i.rows.items ++ (row_for c.args.start (length i.code.items) j f ∷ [])) m)
+    (subst P (sym c.self.view_is) c.requires.order)
+    (omega (arith, k.short, with_length (view_by i.entry i.known i.code.items i.fixes.items i.rows.items) c.args.start f, kept_length _ _ _ _ k, n, c.len-2.ensures, c.len.ensures, c.if-len.false))
+    _ _ _ c.in-Ok.ensures.code
+    (c.in-Ok.ensures.fixes ∙ ap (λ j. i.fixes.items ++ map (forth j) f.fixes) n)
+    (c.in-Ok.ensures.rows ∙ ap (λ j. i.rows.items ++ (row_for c.args.start j i.fixes.len f ∷ [])) n ∙ ap (λ j. i.rows.items ++ (row_for c.args.start (length i.code.items) j f ∷ [])) m)
 
 pub returns-clause-added : goal.returns-clause-added
 returns-clause-added g c =
@@ -45,11 +45,11 @@ returns-clause-added g c =
     let n : i.code.len ≡ length i.code.items = omega (arith, i.code.ok.0) in
     let m : i.fixes.len ≡ length i.fixes.items = omega (arith, i.fixes.ok.0) in
     let a = added_again i.entry i.known i.code.items i.fixes.items i.rows.items c.args.start f k
-      (subst P (sym c.self.view_is) c.requires.order)
-      (omega (arith, k.short, with_length (view_by i.entry i.known i.code.items i.fixes.items i.rows.items) c.args.start f, kept_length _ _ _ _ k, n, c.len-2.ensures, c.len.ensures, c.if-len.false))
-      c.append.new.code.items c.append.new.fixes.items c.append.new.rows.items c.in-Ok.ensures.code
-      (c.in-Ok.ensures.fixes ∙ ap (λ j. i.fixes.items ++ map (forth j) f.fixes) n)
-      (c.in-Ok.ensures.rows ∙ ap (λ j. i.rows.items ++ (row_for c.args.start j i.fixes.len f ∷ [])) n ∙ ap (λ j. i.rows.items ++ (row_for c.args.start (length i.code.items) j f ∷ [])) m) in
+    (subst P (sym c.self.view_is) c.requires.order)
+    (omega (arith, k.short, with_length (view_by i.entry i.known i.code.items i.fixes.items i.rows.items) c.args.start f, kept_length _ _ _ _ k, n, c.len-2.ensures, c.len.ensures, c.if-len.false))
+    c.append.new.code.items c.append.new.fixes.items c.append.new.rows.items c.in-Ok.ensures.code
+    (c.in-Ok.ensures.fixes ∙ ap (λ j. i.fixes.items ++ map (forth j) f.fixes) n)
+    (c.in-Ok.ensures.rows ∙ ap (λ j. i.rows.items ++ (row_for c.args.start j i.fixes.len f ∷ [])) n ∙ ap (λ j. i.rows.items ++ (row_for c.args.start (length i.code.items) j f ∷ [])) m) in
     let made : List Added → Bool → LayoutView = λ added spent. record { entry = i.entry; known = i.known; added = added; spent = spent } in
     ap (λ added. made added false) a
     ∙ ap (λ spent. made (added_in i.code.items i.fixes.items i.rows.items ++ (record { start = c.args.start; code = f } ∷ [])) spent) (sym fresh)

@@ -52,11 +52,11 @@ returns g c =
     let exe = c.args.exe.now in
     let result : List ℕ → ℕ → ℕ → Built = λ code blocks len. record { bytes = image_with exe code; blocks = blocks; code = len } in
     let filled_is : c.fill.new.code ≡ layout_code v =
-      c.fill.ensures
-      ∙ ap (λ (r : List Row). filled (row_address r) CODE_START c.as_slice.result.now c.deref_mut.result.now) c.as_slice-2.ensures.value
-      ∙ ap (λ (f : List Fix). filled (row_address i.rows.items) CODE_START f c.deref_mut.result.now) c.as_slice.ensures.value
-      ∙ ap (filled (row_address i.rows.items) CODE_START i.fixes.items) c.deref_mut.ensures.value
-      ∙ kept_filled _ _ _ _ k w in
+    c.fill.ensures
+    ∙ ap (λ (r : List Row). filled (row_address r) CODE_START c.as_slice.result.now c.deref_mut.result.now) c.as_slice-2.ensures.value
+    ∙ ap (λ (f : List Fix). filled (row_address i.rows.items) CODE_START f c.deref_mut.result.now) c.as_slice.ensures.value
+    ∙ ap (filled (row_address i.rows.items) CODE_START i.fixes.items) c.deref_mut.ensures.value
+    ∙ kept_filled _ _ _ _ k w in
     let n : length c.fill.new.code ≡ i.code.len = omega (arith, c.fill.auto.code, ap length c.deref_mut.ensures.value, i.code.ok.0) in
     let l : i.code.len ≡ code_length v = omega (arith, kept_length _ _ _ _ k, i.code.ok.0) in
     let m : c.len-blocks.result ≡ length v.added = omega (arith, c.len-blocks.ensures, kept_count _ _ _ _ k, i.rows.ok.0) in

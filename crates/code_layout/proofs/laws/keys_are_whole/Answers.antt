@@ -1,5 +1,0 @@
-use Rattle.code_layout.proofs.Chosen.{ascending, all_added}
-use Rattle.code_layout.proofs.laws.keys_are_whole.Goals as goal
-
-pub returns : goal.returns
-returns c = record { ascend = ascending c.one_graph.ensures; whole = all_added c.one_graph.ensures }
