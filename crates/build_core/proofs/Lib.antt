@@ -1,0 +1,2 @@
+mod FileBytes
+mod OriginalImages

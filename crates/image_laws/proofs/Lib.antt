@@ -9,3 +9,7 @@ mod Leading
 mod Exchanging
 mod Meeting
 mod Making
+mod InstBytes
+mod KnownExits
+mod CodeBytes
+mod EachMade

@@ -32,7 +32,7 @@ module _ (exe : Exe) (edges : List Edge) where
   abbrev starts : List ℕ
   starts = starts_of exe (counting exe edges)
 
-  same_keys : keys_of exe edges ≡ map (key_at exe edges) starts
+  pub same_keys : keys_of exe edges ≡ map (key_at exe edges) starts
   unfolding keys_of graph_of
   same_keys = each starts
     where
@@ -40,7 +40,7 @@ module _ (exe : Exe) (edges : List Edge) where
       each [] = refl
       each (x ∷ xs) = ap (λ ks. key_at exe edges x ∷ ks) (each xs)
 
-  same_starts : starts_in (graph_of exe edges) ≡ starts
+  pub same_starts : starts_in (graph_of exe edges) ≡ starts
   unfolding graph_of
   same_starts = each starts
     where
@@ -58,7 +58,7 @@ module _ (exe : Exe) (edges : List Edge) where
   pub known : (x : ℕ) → has_key (keys_of exe edges) x ≡ is_start_of exe edges x
   known x = ap (λ xs. is_among xs x) key_starts ∙ sym (ap (λ xs. is_among xs x) same_starts)
 
-  same_fragments : fragments_of exe (keys_of exe edges) ≡ map (fragment_at (start_items exe edges)) starts
+  pub same_fragments : fragments_of exe (keys_of exe edges) ≡ map (fragment_at (start_items exe edges)) starts
   same_fragments = ap (λ ks. fragments_of exe ks) same_keys ∙ each starts
     where
       each : (xs : List ℕ) → fragments_of exe (map (key_at exe edges) xs) ≡ map (fragment_at (start_items exe edges)) xs

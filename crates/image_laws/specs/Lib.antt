@@ -4,4 +4,5 @@ pub mod Serves
 pub mod Laid
 pub mod Exchanged
 pub mod Law
+pub mod Valid
 pub mod Made

@@ -1,9 +1,13 @@
 -- Fragments are made of pieces that do what they have to.
 use Rattle.std.specs.Prelude.{◌≡◌, ℕ, ◌^◌, ◌<◌, ◌≤◌, true, false, List, length, get_or}
 use Rattle.elf_read.specs.declared.exe.Exe.{Exe}
+use Rattle.elf_read.specs.Elf.{IsGuest}
 use Rattle.ia_encode.specs.Items.{AreDistinct, AreValid}
 use Rattle.run_model.specs.Edges.{Edge}
+use Rattle.trace_file.specs.Edges.{ascends}
 use Rattle.block_cut.specs.Blocks.{block_of}
+use Rattle.flow_graph.specs.declared.error.TheConstants.{MAX_BLOCKS}
+use Rattle.flow_graph.specs.GraphOf.{graph_of}
 use Rattle.lift_flow.specs.LiftedBlock.{lift_of}
 use Rattle.block_make.specs.Keys as keys
 use Rattle.code_layout.specs.declared.place.TheConstants.{MAX_CODE}
@@ -27,3 +31,8 @@ FragmentsAreMade = (exe : Exe) (edges : List Edge) → HaveBytes exe → length 
     → ((i : ℕ) → get_or (code_of exe edges) i 0 < 256)
     → ((x : ℕ) → is_start_of exe edges x ≡ true → is_island_end (block_of exe x).end ≡ false → IsMade exe edges x)
     → FragmentsMade exe edges (coded_of exe edges) (coding_at exe edges)
+
+-- it has what it asks for, for edges in order, not too many
+abbrev pub EachIsMade : Type 0
+EachIsMade = (exe : Exe) (edges : List Edge) → IsGuest exe → HaveBytes exe → ascends edges ≡ true
+    → length (graph_of exe edges) ≤ MAX_BLOCKS → (x : ℕ) → is_start_of exe edges x ≡ true → IsMade exe edges x

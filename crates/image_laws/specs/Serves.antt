@@ -8,6 +8,7 @@ use Rattle.block_cut.specs.Blocks.{block_of}
 use Rattle.ssa_form.specs.Checked.{checked}
 use Rattle.ssa_form.specs.Same.{SpellsWords}
 use Rattle.lift_flow.specs.LiftedBlock.{lift_of}
+use Rattle.block_make.specs.Prepared.{SpellsFew}
 use Rattle.sim_runs.specs.Recovered.{is_island_end}
 use Rattle.sim_runs.specs.Promised.{ServesAt}
 use Rattle.sim_runs.specs.WholeBlock.{IsWay}
@@ -17,12 +18,13 @@ use Rattle.image_laws.specs.Coded.{coded_of, coding_at}
 abbrev pub HaveBytes : Exe → Type 0
 HaveBytes exe = HoldBytes (map region_of exe.segments)
 
--- what is known of each lifted block: names stand for something, numbers have 32 bits, it has at most 2048 lines, and the exit is
--- native exactly where the instruction is
+-- what is known of each lifted block: names stand for something, numbers have 32 bits, those of the exit too, it has at most 2048
+-- lines, and the exit is native exactly where the instruction is
 pub record IsLifted (exe : Exe) (x : ℕ) : Type 0 where
   pub whole : IsTrue (checked (lift_of exe x))
   pub words : SpellsWords (lift_of exe x)
   pub few : length (lift_of exe x).lines ≤ 2048
+  pub exit : SpellsFew (lift_of exe x).exit
   pub way : is_island_end (block_of exe x).end ≡ false → IsWay (lift_of exe x).exit
 
 abbrev pub EachIsLifted : Type 0

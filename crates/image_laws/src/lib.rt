@@ -7,10 +7,12 @@ mod law;
 mod made;
 mod serves;
 mod stands;
+mod valid;
 
 pub use exchanged::states_exchanged;
 pub use laid::{images_hold, images_laid};
 pub use law::images_meet;
-pub use made::fragments_made;
+pub use made::{each_is_made, fragments_made};
 pub use serves::{codings_serve, lifted_blocks};
 pub use stands::code_stands;
+pub use valid::{code_is_bytes, items_valid};

@@ -1,6 +1,5 @@
 //! What `build` comes to.
 ghost use Rattle.std.specs.Prelude.{ℕ, List};
-ghost use Rattle.build_core.specs.ImageLaw.{ImageLaw};
 ghost use Rattle.top_plan.specs.World.{World};
 ghost use Rattle.top_plan.specs.Happened.{Happened};
 ghost use Rattle.top_plan.specs.Partial.{IsOrderly};
@@ -12,7 +11,6 @@ use top_plan::plan_law;
 
 /// The plan of `build` is orderly, and what is answered after a run of it means what it is to mean.
 pub fn build_law()
-    requires { ImageLaw }
     ensures orderly { (name original : List ℕ) (traces : List (List ℕ)) → IsOrderly (build_plan name original traces) }
     ensures means { (name original : List ℕ) (traces : List (List ℕ)) (s : World) (result : ℕ) (t : World)
         → Happened (build_plan name original traces) s result t → MeansBuild name original traces s result t }

@@ -5,6 +5,7 @@ pub returns : goal.returns
 returns c =
     let laws : Lifts = record {
       one = c.one_block.ensures;
+      long = c.encoding_length.ensures;
       valid = c.read_is_valid.ensures;
       whole = c.lines_mean.ensures.checked;
       few = c.lines_mean.ensures.few;

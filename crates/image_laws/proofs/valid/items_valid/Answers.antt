@@ -1,0 +1,5 @@
+use Rattle.image_laws.proofs.EachMade.{items_valid}
+use Rattle.image_laws.proofs.valid.items_valid.Goals as goal
+
+pub returns : goal.returns
+returns c = items_valid c.lifted_blocks.ensures c.fragments_valid.ensures
