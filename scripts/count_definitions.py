@@ -3,13 +3,13 @@
 
 usage: count_definitions.py [--list]
 
-It follows the imports of `Preserves`, `Covers` and `image` through specs/. The table must name each file that it comes to and no other, with about
+It follows the imports of `Preserves` and `Covers` through specs/. The table must name each file that it comes to and no other, with about
 as many lines as it has. Prints each difference, and last 'N passed, M failed'; --list prints the files with their lines instead.
 """
 import os, re, sys
 
 TOP = os.path.dirname(os.path.dirname(os.path.abspath(__file__)))
-HEADS = ["sim_laws/specs/Preserves.antt", "sim_laws/specs/Covers.antt", "code_layout/specs/Image.antt"]
+HEADS = ["sim_laws/specs/Preserves.antt", "sim_laws/specs/Covers.antt"]
 NEAR = 25
 
 
