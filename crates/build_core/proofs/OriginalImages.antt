@@ -1,10 +1,9 @@
 -- The image of an original and edges does what the original does.
-use Rattle.std.proofs.Common.{◌≡◌, ℕ, ◌≤◌, List, length, ◌⊎◌, ⊎_elim}
-use Rattle.std.specs.Prelude.{Ok}
+use Rattle.std.proofs.Common.{ℕ, ◌≤◌, List, length, ⊎_elim}
 use Rattle.br_word.specs.Memory.{AreBytes}
 use Rattle.elf_read.specs.declared.exe.Exe.{Exe}
 use Rattle.elf_read.specs.declared.exe.Reach.TheVariants.{Original}
-use Rattle.elf_read.specs.Elf.{IsOriginal, elf}
+use Rattle.elf_read.specs.Elf.{IsOriginal}
 use Rattle.elf_read.proofs.Accepted.{accepted, original_is_guest}
 use Rattle.trace_file.specs.Edges.{Edge, IsEdges}
 use Rattle.flow_graph.specs.declared.error.TheConstants.{MAX_BLOCKS}
@@ -59,8 +58,8 @@ pub image_law : Parts → ImageLaw
 image_law parts file exe edges e set few room =
     let a = accepted file exe e in
     let both : Preserves file (image exe edges) × Covers file (image exe edges) edges = ⊎_elim
-        (λ (h : AreBytes file). parts.preserve file exe edges (image exe edges) (coded_of exe edges) e
-        (image_laws parts exe edges a.fields (segments_of_bytes Original file exe h e) set few room))
-        (λ (wrong : AreBytes file → ⊥). no_runs parts.laid file exe edges a.fields room wrong)
-        (bytes_or_not file) in
+    (λ (h : AreBytes file). parts.preserve file exe edges (image exe edges) (coded_of exe edges) e
+    (image_laws parts exe edges a.fields (segments_of_bytes Original file exe h e) set few room))
+    (λ (wrong : AreBytes file → ⊥). no_runs parts.laid file exe edges a.fields room wrong)
+    (bytes_or_not file) in
     (a.as_guest, both.0, both.1)

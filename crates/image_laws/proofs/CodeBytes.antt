@@ -1,5 +1,5 @@
 -- The code is of bytes.
-use Rattle.std.proofs.Common.{◌≡◌, ℕ, zero, suc, ◌+◌, ◌<◌, Bool, true, false, List, [], ◌∷◌, ◌++◌, map, get_or, Option, Some, None, sym, subst, arith}
+use Rattle.std.proofs.Common.{ℕ, zero, suc, ◌+◌, ◌<◌, Bool, true, false, List, [], ◌∷◌, ◌++◌, map, get_or, Option, Some, None, sym, subst, arith}
 use Rattle.std.proofs.lemmas.List.Elements.{All-take, recursion_from_All}
 use Rattle.elf_read.specs.declared.exe.Exe.{Exe}
 use Rattle.elf_read.specs.Code.{code_at}
@@ -9,7 +9,7 @@ use Rattle.ia_encode.specs.declared.item.Dest.{Dest}
 use Rattle.ia_encode.specs.declared.item.Dest.TheVariants as dests
 use Rattle.ia_encode.specs.declared.item.Item.{Item}
 use Rattle.ia_encode.specs.declared.item.Item.TheVariants as item
-use Rattle.ia_encode.specs.Items.{jump_inst, size_of_item, size_of_items, bytes_of_item, bytes_of_items, distance, size_of_jump, dest_at, IsCondition, AreValid}
+use Rattle.ia_encode.specs.Items.{jump_inst, size_of_item, size_of_items, bytes_of_items, distance, size_of_jump, dest_at, IsCondition, AreValid}
 use Rattle.run_model.specs.Edges.{Edge}
 use Rattle.block_cut.specs.CountedEdges.{counting}
 use Rattle.flow_graph.specs.GraphOf.{starts_of}
@@ -24,10 +24,10 @@ use Rattle.emit_ops.specs.Sequences.{kept, lines_code, moves_code, live_moves, i
 use Rattle.fall_stubs.specs.Exchange.{capture_code, capture_items, spill_code, spill_items, direction_items, restore_rest, restore_items, opening_items, closing_items}
 use Rattle.block_make.specs.Choices.{Choice, choice_of, place_in}
 use Rattle.block_make.specs.Keys.{live_at, has}
-use Rattle.block_make.specs.FragmentItems.{lines_items, moves_items, tail_items, regain_items, stub_items, part_items, cond_items, aim_items, compare_items, tails_items, way_stub_items, own_bytes, dest_of, exit_items, items_of}
+use Rattle.block_make.specs.FragmentItems.{lines_items, moves_items, tail_items, regain_items, part_items, compare_items, tails_items, way_stub_items, own_bytes, dest_of, exit_items, items_of}
 use Rattle.code_layout.specs.declared.place.TheConstants.{CODE_START}
 use Rattle.code_layout.specs.Keys.{keys_of}
-use Rattle.code_layout.specs.Linked.{Fragment, entry_items, bytes_at, bytes_from, first_at, fragments_of, has_key, code_of}
+use Rattle.code_layout.specs.Linked.{entry_items, bytes_at, bytes_from, first_at, fragments_of, has_key, code_of}
 use Rattle.image_laws.specs.Coded.{start_items, entry_of, address_of}
 use Rattle.image_laws.specs.Serves.{HaveBytes}
 use Rattle.image_laws.proofs.Places.{fragment_at}

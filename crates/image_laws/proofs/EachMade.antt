@@ -1,10 +1,7 @@
 -- The fragment of each start has what it asks for.
-use Rattle.std.proofs.Common.{◌≡◌, ℕ, ◌<◌, true, List, map, subst, sym, ap, ◌∙◌}
+use Rattle.std.proofs.Common.{◌≡◌, ℕ, true, map, subst, sym, ap, ◌∙◌}
 use Rattle.std.specs.Prelude.{All}
 use Rattle.elf_read.specs.declared.exe.Exe.{Exe}
-use Rattle.elf_read.specs.Elf.{IsGuest}
-use Rattle.ia_encode.specs.Items.{AreValid}
-use Rattle.run_model.specs.Edges.{Edge}
 use Rattle.block_cut.specs.CountedEdges.{counting}
 use Rattle.block_cut.specs.Transfers.{is_among}
 use Rattle.flow_graph.specs.GraphOf.{starts_of}
@@ -12,7 +9,7 @@ use Rattle.block_make.specs.Choices.{ready}
 use Rattle.block_make.specs.Keys.{IsKey}
 use Rattle.block_make.specs.Laws.{FragmentsValid, IsLifted}
 use Rattle.code_layout.specs.Layout.{KeysAreKeys}
-use Rattle.image_laws.specs.Coded.{key_at, start_items}
+use Rattle.image_laws.specs.Coded.{key_at}
 use Rattle.image_laws.specs.Stands.{CodeStands}
 use Rattle.image_laws.specs.Serves.{HaveBytes, EachIsLifted}
 use Rattle.image_laws.specs.Valid.{ItemsValid, CodeIsBytes}

@@ -1,9 +1,9 @@
 -- Known exits are addresses of code, and fixed exits have 32 bits.
-use Rattle.std.proofs.Common.{◌≡◌, ℕ, ◌+◌, ◌%◌, ◌^◌, ◌<◌, ◌==◌, Bool, true, false, ◌||◌, ◌&&◌, if◌then◌else◌, List, [], ◌∷◌, map, filter, Option, Some, None, refl, sym, subst, arith, ⊎_elim}
-use Rattle.std.specs.Prelude.{nat_eq, option_to_list, IsTrue, All}
+use Rattle.std.proofs.Common.{◌≡◌, ℕ, ◌+◌, ◌^◌, ◌<◌, ◌==◌, Bool, true, false, ◌||◌, ◌&&◌, if◌then◌else◌, List, [], ◌∷◌, map, filter, refl, sym, subst, arith}
+use Rattle.std.specs.Prelude.{option_to_list, All}
 use Rattle.std.specs.Bool.{then_some}
 use Rattle.std.proofs.lemmas.Nat.{mod_below}
-use Rattle.std.proofs.lemmas.Bool.{and_parts, cases_Bool, eqb-true}
+use Rattle.std.proofs.lemmas.Bool.{and_parts, eqb-true}
 use Rattle.std.proofs.lemmas.List.Elements.{All-head, All-tail}
 use Rattle.elf_read.specs.declared.exe.Exe.{Exe}
 use Rattle.elf_read.specs.Elf.{is_exec, IsGuest}
@@ -23,7 +23,7 @@ use Rattle.ssa_form.specs.declared.form.Val.{Val}
 use Rattle.ssa_form.specs.declared.form.Exit.{Exit}
 use Rattle.ssa_form.specs.declared.form.Exit.TheVariants as exits
 use Rattle.ssa_form.specs.declared.form.Block.{Block}
-use Rattle.lift_alu.specs.Lifted.{Leaving, Onward, Either, Away, leaving_of, row_of, draft_of, exit_by, lifted}
+use Rattle.lift_alu.specs.Lifted.{leaving_of, row_of, draft_of, exit_by, lifted}
 use Rattle.lift_alu.specs.Steps.{row_steps, unnamed}
 use Rattle.lift_flow.specs.LiftedBlock.{blank, lifted_all, lifted_to, lift_of}
 use Rattle.block_make.specs.Keys.{IsKey}
@@ -87,7 +87,7 @@ module _ (exe : Exe) where
   pub exits_small : IsGuest exe → (edges : List Edge) (x : ℕ) → AreWords (key_at exe edges x).exits
   exits_small guest edges x = words_of guest _ _ (known_code edges x)
 
--- ---- keys
+  -- ---- keys
 
   pub key_here : (edges : List Edge) (xs : List ℕ) (x : ℕ) → All (IsKey exe) (map (key_at exe edges) xs) → is_among xs x ≡ true → IsKey exe (key_at exe edges x)
   key_here edges [] x h m = absurd (let e : false ≡ true = m in cc)
