@@ -38,7 +38,12 @@ fn graph_of(alloc: Global, exe: &Exe, edges: &Edges) -> Result<Graph, BuildError
 ///
 /// Errors: [`BuildError::Code`] where the code would be longer than [`MAX_CODE`](code_layout::MAX_CODE), and
 /// [`BuildError::Memory`] for want of memory.
-fn laid_out(alloc: Global, exe: &Exe, edges: &Edges, graph: &Graph) -> Result<Layout<()>, BuildError>
+fn laid_out(
+    alloc: Global,
+    exe: &Exe,
+    edges: &Edges,
+    graph: &Graph,
+) -> Result<Layout<()>, BuildError>
     requires original { IsOriginal exe.now }
     requires graph { graph.now.nodes ≡ graph_of exe.now edges.now }
     requires few { length graph.now.nodes ≤ MAX_BLOCKS }

@@ -21,7 +21,12 @@ use std::alloc::Global;
 ///
 /// Errors: [`BuildError::Code`] where the code would be longer than [`MAX_CODE`](code_layout::MAX_CODE), and
 /// [`BuildError::Memory`] for want of memory.
-pub fn layout_of(alloc: Global, exe: &Exe, known: bool, keys: &[BlockKey]) -> Result<Layout<()>, BuildError>
+pub fn layout_of(
+    alloc: Global,
+    exe: &Exe,
+    known: bool,
+    keys: &[BlockKey],
+) -> Result<Layout<()>, BuildError>
     requires guest { IsGuest exe.now }
     requires entry { known ≡ has_key keys.now exe.now.entry }
     requires each { All (IsKey exe.now) keys.now }
