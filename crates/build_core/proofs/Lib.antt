@@ -1,2 +1,5 @@
 mod FileBytes
 mod OriginalImages
+pub mod Known
+pub mod SoFar
+pub mod WholeCode

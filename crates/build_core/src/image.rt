@@ -1,16 +1,72 @@
 //! The file for an original and edges is written.
-ghost use Rattle.std.specs.Prelude.{◌≡◌, IfOk, IfErr};
-ghost use Rattle.elf_read.specs.Elf.{IsOriginal};
-ghost use Rattle.code_layout.specs.declared.built.BuildError.TheVariants.{Blocks, Code};
+ghost use Rattle.std.specs.Prelude.{◌≡◌, ◌≤◌, IfOk, IfErr, length};
+ghost use Rattle.elf_read.specs.Elf.{IsGuest, IsOriginal};
+ghost use Rattle.flow_graph.specs.declared.error.TheConstants.{MAX_BLOCKS};
+ghost use Rattle.flow_graph.specs.GraphOf.{graph_of};
+ghost use Rattle.code_layout.specs.declared.built.BuildError.TheVariants.{Blocks, Code, Memory};
+ghost use Rattle.code_layout.specs.Keys.{keys_of};
 ghost use Rattle.code_layout.specs.Image.{built_of, HasTooManyBlocks, IsTooLong};
+ghost use Rattle.code_layout.specs.Layout.{layout_of};
 
-use code_layout::{BuildError, Built};
+use crate::laid::layout_of;
+use code_layout::{BuildError, Built, Layout, keys_are_keys, keys_of, layout_links};
 use elf_read::Exe;
+use flow_graph::{Graph, GraphError, one_graph};
 use std::alloc::Global;
 use trace_file::Edges;
 
-/// Writes the file for an original and edges.
-pub fn build(_alloc: Global, exe: &Exe, edges: &Edges) -> Result<Built, BuildError>
+/// The graph of an executable and edges.
+///
+/// Errors: [`BuildError::Blocks`] where it would have more than [`MAX_BLOCKS`](flow_graph::MAX_BLOCKS) blocks, and
+/// [`BuildError::Memory`] for want of memory.
+fn graph_of(alloc: Global, exe: &Exe, edges: &Edges) -> Result<Graph, BuildError>
+    requires { IsGuest exe.now }
+    ensures graph { IfOk result (λ g. g.nodes ≡ graph_of exe.now edges.now) }
+    ensures few { IfOk result (λ g. length g.nodes ≤ MAX_BLOCKS) }
+    ensures blocks { IfErr result (λ e. e ≡ Blocks → HasTooManyBlocks exe.now edges.now) }
+    ensures code { IfErr result (λ e. e ≡ Code → ⊥) }
+{
+    one_graph();
+    match Graph::of(alloc, exe, edges) {
+        Ok(graph) => Ok(graph),
+        Err(GraphError::Blocks) => Err(BuildError::Blocks),
+        Err(GraphError::Memory) => Err(BuildError::Memory),
+    }
+}
+
+/// The layout of the fragments of all blocks of the graph of an original and edges.
+///
+/// Errors: [`BuildError::Code`] where the code would be longer than [`MAX_CODE`](code_layout::MAX_CODE), and
+/// [`BuildError::Memory`] for want of memory.
+fn laid_out(
+    alloc: Global,
+    exe: &Exe,
+    edges: &Edges,
+    graph: &Graph,
+) -> Result<Layout<()>, BuildError>
+    requires original { IsOriginal exe.now }
+    requires graph { graph.now.nodes ≡ graph_of exe.now edges.now }
+    requires few { length graph.now.nodes ≤ MAX_BLOCKS }
+    ensures layout { IfOk result (λ l. l ≡ layout_of exe.now (keys_of exe.now edges.now)) }
+    ensures short { IfOk result (λ l. IsTooLong exe.now edges.now → ⊥) }
+    ensures long { IfErr result (λ e. e ≡ Code → IsTooLong exe.now edges.now) }
+    ensures blocks { IfErr result (λ e. e ≡ Blocks → ⊥) }
+{
+    layout_links();
+    keys_are_keys();
+    let _in_order = edges.len();
+    let known = graph.index_of(exe.entry).is_some();
+    let keys = keys_of(alloc, exe, graph)?;
+    layout_of(alloc, exe, known, keys.as_slice())
+}
+
+/// Writes the file for an original and edges: the recovered code of the blocks of their graph, a private segment, and the original's
+/// segments at their addresses.
+///
+/// Errors: [`BuildError::Blocks`] only where the graph has more than [`MAX_BLOCKS`](flow_graph::MAX_BLOCKS) blocks,
+/// [`BuildError::Code`] only where it has not and the recovered code is longer than [`MAX_CODE`](code_layout::MAX_CODE), and
+/// [`BuildError::Memory`] for want of memory.
+pub fn build(alloc: Global, exe: &Exe, edges: &Edges) -> Result<Built, BuildError>
     requires { IsOriginal exe.now }
     ensures built { IfOk result (λ b. b ≡ built_of exe.now edges.now) }
     ensures few { IfOk result (λ b. HasTooManyBlocks exe.now edges.now → ⊥) }
@@ -18,6 +74,9 @@ pub fn build(_alloc: Global, exe: &Exe, edges: &Edges) -> Result<Built, BuildErr
     ensures blocks { IfErr result (λ e. e ≡ Blocks → HasTooManyBlocks exe.now edges.now) }
     ensures code { IfErr result (λ e. e ≡ Code → (HasTooManyBlocks exe.now edges.now → ⊥) × IsTooLong exe.now edges.now) }
 {
-    let _given = exe.entry.wrapping_add(edges.len());
-    Err(BuildError::Memory)
+    layout_links();
+    keys_are_keys();
+    let graph = graph_of(alloc, exe, edges)?;
+    let layout = laid_out(alloc, exe, edges, &graph)?;
+    Ok(layout.image(alloc, exe)?.into_built())
 }

@@ -2,7 +2,11 @@
 #![tactic(auto)]
 
 mod image;
+mod laid;
 mod law;
 
 pub use image::build;
 pub use law::image_law;
+
+#[cfg(test)]
+mod tests;
