@@ -1,2 +1,4 @@
 pub mod Lengths
 pub mod Accepted
+pub mod Spelled
+pub mod Sites
