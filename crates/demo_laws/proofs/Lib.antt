@@ -2,3 +2,6 @@ pub mod Lengths
 pub mod Accepted
 pub mod Spelled
 pub mod Sites
+pub mod Goes
+pub mod Stack
+pub mod Calls

@@ -4,6 +4,9 @@
 
 ghost use Rattle.demo_laws.specs.Accepted.{DemoAccepted};
 ghost use Rattle.demo_laws.specs.Sites.{DemoSites};
+ghost use Rattle.demo_laws.specs.Runs.{DemoRuns};
+
+use run_model::runs_split;
 
 /// The demonstration with 1 to 1000 functions is a file of bytes, accepted as an original and as a guest: one segment, which is
 /// the whole file.
@@ -15,3 +18,13 @@ pub fn demo_accepted()
 pub fn demo_sites()
     ensures { DemoSites }
 {}
+
+/// Its run without words and input is well defined, exits with 0 after at most 10 steps and 5 for each function, and writes
+/// the four bytes of the last value to descriptor 1.
+pub fn demo_runs()
+    ensures { DemoRuns }
+{
+    demo_accepted();
+    demo_sites();
+    runs_split();
+}
