@@ -1,16 +1,14 @@
 -- Well-defined runs from one state to another, one behind the other.
-use Rattle.std.proofs.Common.{◌≡◌, ℕ, zero, suc, ◌+◌, ◌-◌, ◌^◌, ◌<◌, ◌≤◌, Bool, true, false, List, [], ◌∷◌, ◌++◌, drop, Option, Some, None, ◌⊎◌, inl, inr, refl, sym, ap, ◌∙◌, subst, arith, append-nil}
-use Rattle.std.specs.Prelude.{◌↔◌}
-use Rattle.br_word.specs.declared.types.Flags.{Flags}
+use Rattle.std.proofs.Common.{◌≡◌, ℕ, zero, suc, ◌+◌, ◌-◌, ◌<◌, ◌≤◌, Bool, true, List, [], ◌++◌, drop, Some, ◌⊎◌, inl, inr, refl, sym, ap, ◌∙◌, subst, arith, append-nil}
 use Rattle.br_word.specs.Memory.{Region, load, store}
-use Rattle.br_word.specs.State.{State, RunState, Running, Exited, Faulted, Processor, Flag, flag_of}
+use Rattle.br_word.specs.State.{State, RunState, Running, Exited, Faulted, Flag, flag_of}
 use Rattle.ia_inst.specs.declared.inst.Inst.{Inst}
-use Rattle.ia_inst.specs.Act.{Act, Load, Store, Ask, Calls, Ends, Change, Changes, NextEip, Completion, Next, flags_after, marks_after, or_denied, or_none, perform, asked}
-use Rattle.ia_inst.specs.Meaning.{meaning, no_changes}
-use Rattle.ia_inst.specs.System.{StepResult, On, Bad}
-use Rattle.ia_inst.specs.Step.{Found, NoCode, NoInst, There, found, next_eip, result_of, act_of, result_at, step_result, asked_at, settled, unless_stopped, step, AllMarked, NoFault, IsWellDefined}
+use Rattle.ia_inst.specs.Act.{Load, Store, Ask, Ends, Changes, NextEip, flags_after, marks_after, or_denied, or_none, perform, asked}
+use Rattle.ia_inst.specs.Meaning.{no_changes}
+use Rattle.ia_inst.specs.System.{On}
+use Rattle.ia_inst.specs.Step.{There, found, next_eip, result_of, act_of, result_at, step_result, asked_at, settled, unless_stopped, step, AllMarked, NoFault}
 use Rattle.run_model.specs.Edges.{Edge, is_transfer, edge_by, edge_at, edge_of, edges_from}
-use Rattle.run_model.specs.Run.{run, first_choice, WellDefined}
+use Rattle.run_model.specs.Run.{run, WellDefined}
 use Rattle.run_model.specs.Split.{RunsSplit, EdgesSplit, WellDefinedSplits}
 
 -- so many well-defined steps lead from one state to another, run until then, and give these edges
@@ -24,12 +22,12 @@ pub stays_here : (s : State) → Goes 0 s s []
 stays_here s = record { defined = tt; comes = refl; edges = refl; before = λ k h. absurd (omega (arith, h)) }
 
 module _ (splits : RunsSplit) (joins : EdgesSplit) (both : WellDefinedSplits) where
-  no_choice : (n : ℕ) → let none : List ℕ = [] in drop n none ≡ none
+  pub no_choice : (n : ℕ) → let none : List ℕ = [] in drop n none ≡ none
   no_choice zero = refl
   no_choice (suc n) = refl
 
-  pub then : (m n : ℕ) (s t u : State) (es fs : List Edge) → Goes m s t es → Goes n t u fs → Goes (m + n) s u (es ++ fs)
-  then m n s t u es fs g h = record {
+  pub behind : (m n : ℕ) (s t u : State) (es fs : List Edge) → Goes m s t es → Goes n t u fs → Goes (m + n) s u (es ++ fs)
+  behind m n s t u es fs g h = record {
     defined = (both m n s).1 (g.defined, subst (WellDefined n) (sym g.comes) h.defined);
     comes = splits m n s [] ∙ ap (λ cs. run n (run m s []) cs) (no_choice m) ∙ ap (λ t. run n t []) g.comes ∙ h.comes;
     edges = joins m n s ∙ ap (λ t. edges_from m s ++ edges_from n t) g.comes ∙ ap (λ es. es ++ edges_from n t) g.edges ∙ ap (λ fs. es ++ fs) h.edges;

@@ -5,3 +5,4 @@ pub mod Sites
 pub mod Goes
 pub mod Stack
 pub mod Calls
+pub mod Run

@@ -1,18 +1,16 @@
 -- The memory of the demonstration: its code, and the stack, in which one word is written and read.
-use Rattle.std.proofs.Common.{◌≡◌, ℕ, zero, suc, ◌+◌, ◌-◌, ◌^◌, ◌<◌, ◌≤◌, Bool, true, false, ◌&&◌, ◌||◌, List, [], ◌∷◌, ◌++◌, length, take, drop, Option, Some, None, refl, sym, ap, ◌∙◌, subst, arith, length-append}
+use Rattle.std.proofs.Common.{◌≡◌, ℕ, ◌+◌, ◌-◌, ◌^◌, ◌<◌, ◌≤◌, Bool, true, false, ◌&&◌, ◌||◌, List, [], ◌∷◌, ◌++◌, length, take, drop, Some, refl, sym, ap, ◌∙◌, arith, length-append}
 use Rattle.std.specs.Prelude.{option_map, nat_lt, nat_le, if◌then◌else◌}
 use Rattle.std.proofs.lemmas.Bool.{le-leb, lt-leb, lt-ltb}
 use Rattle.std.proofs.lemmas.List.{take_at, drop_at, length-take, length-drop}
-use Rattle.br_word.specs.declared.types.Perms.{Perms}
-use Rattle.br_word.specs.Memory.{Region, Use, Reads, Writes, Runs, allows, covers, bytes_at, put_over, written, number_of, bytes_of, load, store}
-use Rattle.elf_read.specs.Elf.{in_segment, is_exec}
-use Rattle.elf_read.specs.Code.{segment_bytes, code_at}
+use Rattle.br_word.specs.Memory.{Region, Reads, Runs, covers, bytes_at, put_over, written, number_of, bytes_of, load, store}
+use Rattle.elf_read.specs.Code.{segment_bytes}
 use Rattle.elf_read.specs.Regions.{region_of, heap_region}
 use Rattle.elf_read.proofs.Numbers.{number_again, length_bytes_of}
 use Rattle.ia_inst.specs.Instructions.{decode_of}
 use Rattle.ia_inst.specs.Step.{NoCode, found_from, found_in, found}
 use Rattle.block_cut.specs.Places.{found_at}
-use Rattle.demo_gen.specs.Demonstration.{demo_start, demo_length, demo_file}
+use Rattle.demo_gen.specs.Demonstration.{demo_start, demo_length}
 use Rattle.demo_laws.proofs.Lengths.{file_length}
 use Rattle.demo_laws.proofs.Sites.{segment_whole}
 use Rattle.demo_laws.specs.Accepted.{demo_of, demo_segment}
