@@ -6,3 +6,6 @@ pub mod Goes
 pub mod Stack
 pub mod Calls
 pub mod Run
+pub mod Edges
+pub mod Blocks
+pub mod Graph

@@ -3,4 +3,4 @@
 
 mod laws;
 
-pub use laws::{demo_accepted, demo_runs, demo_sites};
+pub use laws::{demo_accepted, demo_graph, demo_runs, demo_sites};
