@@ -34,7 +34,7 @@ pub data Here (count : ℕ) : ℕ → ℕ → Type 0 where
   second : (i : ℕ) → i < count → Here count (second_of count i) (call_site (suc i))
 
 -- it ends with a transfer with one edge, or is followed by a block
-abbrev Way : ℕ → ℕ → ℕ → BasicBlock → Type 0
+abbrev pub Way : ℕ → ℕ → ℕ → BasicBlock → Type 0
 Way count start to b = ((b.end ≡ Transfer) × Made count (last_of start b.insts) to) ⊎ ((is_followed b.end ≡ true) × (start + size_of b.insts ≡ to) × (is_exec to (demo_of count).segments ≡ true) × ((v : ℕ) × Here count to v))
 
 pub record Fact (count start to : ℕ) : Type 0 where
@@ -101,7 +101,7 @@ module _ (one : EachHasOneBlock) (count : ℕ) (some : 1 ≤ count) (few : count
       (placed (write_site count) ((Push (Rm (Reg 0)), 1) ∷ (Mov B32 (Reg 0) (Imm 4), 5) ∷ (Mov B32 (Reg 3) (Imm 1), 5) ∷ (Mov B32 (Reg 1) (Rm (Reg 4)), 2) ∷ (Mov B32 (Reg 2) (Imm 4), 5) ∷ []))
       BeforeIsland
       (refl, w.1, (refl, w.2.1, (refl, w.2.2.1, (refl, w.2.2.2.1, (refl, w.2.2.2.2.1, tt)))))
-      ((refl, (refl, (refl, (refl, (refl, tt))))), omega arith, lit≤ tt, before_call (write_site count + 18) (write_site count + 1 + 5 + 5 + 2 + 5) (omega arith) w.2.2.2.2.2.1)
+      ((refl, (refl, (refl, (refl, (refl, tt))))), omega arith, omega arith, before_call (write_site count + 18) (write_site count + 1 + 5 + 5 + 2 + 5) (omega arith) w.2.2.2.2.2.1)
       refl (lit≤ tt) refl (omega arith) (omega arith) written
 
   fact_written : Fact count (write_site count + 18) (exit_site count)
@@ -116,7 +116,7 @@ module _ (one : EachHasOneBlock) (count : ℕ) (some : 1 ≤ count) (few : count
       let x = sites.exit in
       followed (exit_site count) (exit_site count + 10) (function_site count 0) (placed (exit_site count) ((Mov B32 (Reg 0) (Imm 1), 5) ∷ (Mov B32 (Reg 3) (Imm 0), 5) ∷ [])) BeforeIsland
       (refl, x.1, (refl, x.2.1, tt))
-      ((refl, (refl, tt)), omega arith, lit≤ tt, before_call (exit_site count + 10) (exit_site count + 5 + 5) (omega arith) x.2.2.1)
+      ((refl, (refl, tt)), omega arith, omega arith, before_call (exit_site count + 10) (exit_site count + 5 + 5) (omega arith) x.2.2.1)
       refl (lit≤ tt) refl (omega arith) (omega arith) exited
 
   fact_exited : Fact count (exit_site count + 10) (function_site count 0)
@@ -151,6 +151,19 @@ module _ (one : EachHasOneBlock) (count : ℕ) (some : 1 ≤ count) (few : count
       ∙ ap (λ b. then_some (b && is_exec (s + size_of f.block.insts) (demo_of count).segments) (s + size_of f.block.insts)) e
       ∙ ap (λ n. then_some (is_exec n (demo_of count).segments) n) n
       ∙ ap (λ b. then_some b t) x
+
+  -- the two system calls follow the blocks before them, and so does what stands behind them
+  pub follow_write : follow_of (demo_of count) (write_site count) ≡ Some (write_site count + 18)
+  unfolding fact_write followed
+  follow_write = follow_is (write_site count) (write_site count + 18) fact_write refl refl (in_code count (write_site count + 18) (omega arith) (omega arith))
+
+  pub follow_written : follow_of (demo_of count) (write_site count + 18) ≡ Some (exit_site count)
+  unfolding fact_written followed
+  follow_written = follow_is (write_site count + 18) (exit_site count) fact_written refl (omega arith) (in_code count (exit_site count) (omega arith) (omega arith))
+
+  pub follow_exit : follow_of (demo_of count) (exit_site count) ≡ Some (exit_site count + 10)
+  unfolding fact_exit followed
+  follow_exit = follow_is (exit_site count) (exit_site count + 10) fact_exit refl refl (in_code count (exit_site count + 10) (omega arith) (omega arith))
 
   -- a following start has a block of the list
   pub goes_on : (s t u : ℕ) → Here count s t → follow_of (demo_of count) s ≡ Some u → (v : ℕ) × Here count u v

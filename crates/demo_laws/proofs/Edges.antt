@@ -1,9 +1,9 @@
 -- The edges of the run of the demonstration, and the targets of each site in a set of them.
 use Rattle.std.proofs.Common.{◌≡◌, ℕ, zero, suc, ◌+◌, ◌-◌, ◌*◌, ◌<◌, ◌≤◌, ◌==◌, Bool, true, false, ◌&&◌, ◌||◌, List, [], ◌∷◌, ◌++◌, length, map, filter, Contains, ◌⊎◌, inl, inr, refl, sym, ap, ◌∙◌, subst, arith}
-use Rattle.std.specs.Prelude.{nat_lt, nat_eq, if◌then◌else◌}
+use Rattle.std.specs.Prelude.{All, nat_lt, nat_eq, if◌then◌else◌}
 use Rattle.std.proofs.lemmas.Bool.{and_parts, ne_eqb, eqb-true}
 use Rattle.std.proofs.lemmas.Bool.Decides.{nat_tests}
-use Rattle.std.proofs.lemmas.List.Elements.{All, All-nil, All-cons, All-head, All-tail, Contains-append_left, Contains-append_right, Contains-append_cases}
+use Rattle.std.proofs.lemmas.List.Elements.{All-head, All-tail, Contains-append_left, Contains-append_right, Contains-append_cases}
 use Rattle.run_model.specs.Edges.{Edge}
 use Rattle.trace_file.specs.Edges.{before, ascends_after, ascends}
 use Rattle.trace_file.proofs.Union.{here, there, first_or_later}
@@ -46,13 +46,17 @@ IsMade count e = Made count e.0 e.1
 -- ---- the list has just these
 
 of_call : (count i : ℕ) (e : Edge) → i < count → Contains (call_edges count i) e → IsMade count e
-of_call count i e h c = elim (first_or_later _ e _ c) [
-  | inl s ↦ subst (IsMade count) s (calls i h)
-  | inr d ↦ elim (first_or_later _ e _ d) [
-    | inl s ↦ subst (IsMade count) s (jumps i h)
-    | inr f ↦ elim (first_or_later _ e _ f) [ inl s ↦ subst (IsMade count) s (returns i h) | inr g ↦ absurd (none e g) ]
-  ]
-]
+of_call count i e h c =
+    let a : Edge = (call_site i, function_site count i) in
+    let b : Edge = (function_site count i + 6, second_of count i) in
+    let d : Edge = (function_site count i + 10, call_site (suc i)) in
+    elim (first_or_later a e (b ∷ d ∷ []) c) [
+      | inl s ↦ subst (IsMade count) s (calls i h)
+      | inr f ↦ elim (first_or_later b e (d ∷ []) f) [
+        | inl s ↦ subst (IsMade count) s (jumps i h)
+        | inr g ↦ elim (first_or_later d e [] g) [ inl s ↦ subst (IsMade count) s (returns i h) | inr n ↦ absurd (none e n) ]
+      ]
+    ]
 
 of_calls : (count i : ℕ) (e : Edge) → i ≤ count → Contains (edges_after count i) e → IsMade count e
 of_calls count zero e h c = absurd (none e c)
@@ -138,7 +142,7 @@ module _ (site to : ℕ) where
           ∙ ap (λ xs. to ∷ xs) (no_more a es (omega (arith, at)) (All-head Single a es k) h (All-tail Single a es k))
       go false e f =
           ap (λ t. map (λ (e : Edge). e.1) (if t then a ∷ filter (λ (e : Edge). e.0 == site) es else filter (λ (e : Edge). e.0 == site) es)) e
-          ∙ f (elim (first_or_later a (site, to) es c) [ inl s ↦ absurd (differs (ap (λ e. e.0) s) e) | inr d ↦ d ])
+          ∙ f (elim (first_or_later a (site, to) es c) [ inl s ↦ absurd (differs (ap (λ (e : Edge). e.0) s) e) | inr d ↦ d ])
 
       differs : a.0 ≡ site → (a.0 == site) ≡ false → ⊥
       differs s e = grind (arith, nat_tests)
