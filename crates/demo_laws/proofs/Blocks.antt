@@ -169,12 +169,12 @@ module _ (one : EachHasOneBlock) (count : ℕ) (some : 1 ≤ count) (few : count
   pub goes_on : (s t u : ℕ) → Here count s t → follow_of (demo_of count) s ≡ Some u → (v : ℕ) × Here count u v
   goes_on s t u h e = go (fact s t h) (fact s t h).way
     where
-      go : (f : Fact count s t) → Way count s t f.block → (v : ℕ) × Here count u v
-      go f (inl w) = absurd (none_some u (sym (no_follow s t f w.0) ∙ e))
-      go f (inr w) = subst (λ u. (v : ℕ) × Here count u v) (same t u (sym (follow_is s t f w.0 w.1 w.2) ∙ e)) w.3
-
       none_some : (u : ℕ) → None ≡ Some u → ⊥
       none_some u e = cc
 
       same : (t u : ℕ) → Some t ≡ Some u → t ≡ u
       same t u e = cc
+
+      go : (f : Fact count s t) → Way count s t f.block → (v : ℕ) × Here count u v
+      go f (inl w) = absurd (none_some u (sym (no_follow s t f w.0) ∙ e))
+      go f (inr w) = subst (λ u. (v : ℕ) × Here count u v) (same t u (sym (follow_is s t f w.0 w.1 w.2) ∙ e)) w.3

@@ -73,14 +73,14 @@ made count e c = elim (first_or_later (0, demo_entry) e (edges_after count count
 
 in_calls : (count i j : ℕ) (e : Edge) → i < j → Contains (call_edges count i) e → Contains (edges_after count j) e
 in_calls count i zero e h c = absurd (omega (arith, h))
-in_calls count i (suc j) e h c = go (split i j)
+in_calls count i (suc j) e h c = go (split i j) (λ l. in_calls count i j e l c)
   where
     split : (i j : ℕ) → (i < j) ⊎ (j ≤ i)
     split i j = grind arith
 
-    go : (i < j) ⊎ (j ≤ i) → Contains (edges_after count (suc j)) e
-    go (inl l) = Contains-append_left (edges_after count j) (call_edges count j) e (in_calls count i j e l c)
-    go (inr l) =
+    go : (i < j) ⊎ (j ≤ i) → (i < j → Contains (edges_after count j) e) → Contains (edges_after count (suc j)) e
+    go (inl l) f = Contains-append_left (edges_after count j) (call_edges count j) e (f l)
+    go (inr l) f =
         let s : i ≡ j = omega (arith, h, l) in
         Contains-append_right (edges_after count j) (call_edges count j) e (subst (λ i. Contains (call_edges count i) e) s c)
 
@@ -133,6 +133,9 @@ module _ (site to : ℕ) where
   single [] h k c = absurd (none (site, to) c)
   single (a ∷ es) h k c = go (a.0 == site) refl (single es (rest_ascends a es h) (All-tail Single a es k))
     where
+      differs : a.0 ≡ site → (a.0 == site) ≡ false → ⊥
+      differs s e = grind (arith, nat_tests)
+
       go : (t : Bool) → (a.0 == site) ≡ t → (Contains es (site, to) → targets_from site es ≡ to ∷ []) → targets_from site (a ∷ es) ≡ to ∷ []
       go true e f =
           let at : a.0 ≡ site = eqb-true a.0 site e in
@@ -143,6 +146,3 @@ module _ (site to : ℕ) where
       go false e f =
           ap (λ t. map (λ (e : Edge). e.1) (if t then a ∷ filter (λ (e : Edge). e.0 == site) es else filter (λ (e : Edge). e.0 == site) es)) e
           ∙ f (elim (first_or_later a (site, to) es c) [ inl s ↦ absurd (differs (ap (λ (e : Edge). e.0) s) e) | inr d ↦ d ])
-
-      differs : a.0 ≡ site → (a.0 == site) ≡ false → ⊥
-      differs s e = grind (arith, nat_tests)

@@ -82,11 +82,11 @@ split i j = grind arith
 
 in_calls : (count i j k : ℕ) → j ≤ i → i < j + k → Contains (call_nodes count j k) (leads (call_site i) (function_site count i))
 in_calls count i j zero l h = absurd (omega (arith, l, h))
-in_calls count i j (suc k) l h = go (split j i)
+in_calls count i j (suc k) l h = go (split j i) (λ m. in_calls count i (suc j) k (omega (arith, m)) (omega (arith, h)))
   where
-    go : (j < i) ⊎ (i ≤ j) → Contains (call_nodes count j (suc k)) (leads (call_site i) (function_site count i))
-    go (inl m) = there (leads (call_site j) (function_site count j)) (leads (call_site i) (function_site count i)) (call_nodes count (suc j) k) (in_calls count i (suc j) k (omega (arith, m)) (omega (arith, h)))
-    go (inr m) =
+    go : (j < i) ⊎ (i ≤ j) → (j < i → Contains (call_nodes count (suc j) k) (leads (call_site i) (function_site count i))) → Contains (call_nodes count j (suc k)) (leads (call_site i) (function_site count i))
+    go (inl m) f = there (leads (call_site j) (function_site count j)) (leads (call_site i) (function_site count i)) (call_nodes count (suc j) k) (f m)
+    go (inr m) f =
         let e : j ≡ i = omega (arith, l, m) in
         subst (λ j. Contains (leads (call_site j) (function_site count j) ∷ call_nodes count (suc j) k) (leads (call_site i) (function_site count i))) (sym e) (here (leads (call_site i) (function_site count i)) (call_nodes count (suc i) k))
 
@@ -98,16 +98,16 @@ other_half count i = leads (second_of count i) (call_site (suc i))
 
 in_functions : (count i j k : ℕ) → j ≤ i → i < j + k → Contains (function_nodes count j k) (first_half count i) × Contains (function_nodes count j k) (other_half count i)
 in_functions count i j zero l h = absurd (omega (arith, l, h))
-in_functions count i j (suc k) l h = go (split j i)
+in_functions count i j (suc k) l h = go (split j i) (λ m. in_functions count i (suc j) k (omega (arith, m)) (omega (arith, h)))
   where
     later : (x : Node) → Contains (function_nodes count (suc j) k) x → Contains (function_nodes count j (suc k)) x
     later x c = there (first_half count j) x (other_half count j ∷ function_nodes count (suc j) k) (there (other_half count j) x (function_nodes count (suc j) k) c)
 
-    go : (j < i) ⊎ (i ≤ j) → Contains (function_nodes count j (suc k)) (first_half count i) × Contains (function_nodes count j (suc k)) (other_half count i)
-    go (inl m) =
-        let r = in_functions count i (suc j) k (omega (arith, m)) (omega (arith, h)) in
+    go : (j < i) ⊎ (i ≤ j) → (j < i → Contains (function_nodes count (suc j) k) (first_half count i) × Contains (function_nodes count (suc j) k) (other_half count i)) → Contains (function_nodes count j (suc k)) (first_half count i) × Contains (function_nodes count j (suc k)) (other_half count i)
+    go (inl m) f =
+        let r = f m in
         (later (first_half count i) r.0, later (other_half count i) r.1)
-    go (inr m) =
+    go (inr m) f =
         let e : j ≡ i = omega (arith, l, m) in
         let rest = function_nodes count (suc i) k in
         subst (λ j. Contains (function_nodes count j (suc k)) (first_half count i) × Contains (function_nodes count j (suc k)) (other_half count i)) (sym e)
@@ -170,11 +170,10 @@ nodes_here count some =
 -- ---- edges that count
 
 is_true : (b : Bool) → b ≡ true → IsTrue b
-is_true b e = subst IsTrue (sym e) tt
+is_true b e = e
 
 of_true : (b : Bool) → IsTrue b → b ≡ true
-of_true true h = refl
-of_true false h = absurd h
+of_true b h = h
 
 keeps_all : (p : Edge → Bool) (es : List Edge) → ((e : Edge) → Contains es e → p e ≡ true) → filter p es ≡ es
 keeps_all p [] h = refl
