@@ -1,6 +1,6 @@
 -- The blocks of the demonstration.
-use Rattle.std.proofs.Common.{◌≡◌, ℕ, zero, suc, ◌+◌, ◌-◌, ◌*◌, ◌<◌, ◌≤◌, Bool, true, false, ◌&&◌, ◌||◌, List, [], ◌∷◌, length, Option, Some, None, ◌⊎◌, inl, inr, refl, sym, ap, ◌∙◌, subst, arith, lit≤}
-use Rattle.std.specs.Prelude.{nat_lt, nat_le, ◌↔◌}
+use Rattle.std.proofs.Common.{◌≡◌, ℕ, suc, ◌+◌, ◌*◌, ◌<◌, ◌≤◌, Bool, true, false, ◌&&◌, ◌||◌, List, [], ◌∷◌, length, Some, None, ◌⊎◌, inl, inr, refl, sym, ap, ◌∙◌, subst, arith, lit≤}
+use Rattle.std.specs.Prelude.{nat_lt}
 use Rattle.std.specs.Bool.{then_some}
 use Rattle.std.proofs.lemmas.Bool.{le-leb, lt-ltb}
 use Rattle.br_word.specs.declared.types.Width.TheVariants.{B32}
@@ -10,14 +10,14 @@ use Rattle.ia_inst.specs.declared.inst.Rm.TheVariants.{Reg}
 use Rattle.ia_inst.specs.declared.inst.Src.TheVariants.{Imm, Rm}
 use Rattle.ia_inst.specs.declared.inst.Kind.TheVariants as kinds
 use Rattle.ia_inst.specs.Step.{There}
-use Rattle.elf_read.specs.Elf.{in_segment, is_exec}
+use Rattle.elf_read.specs.Elf.{is_exec}
 use Rattle.block_cut.specs.declared.ends.End.{End}
 use Rattle.block_cut.specs.declared.ends.End.TheVariants.{Transfer, Island, BeforeIsland}
 use Rattle.block_cut.specs.Places.{Placed, found_at}
 use Rattle.block_cut.specs.Blocks.{BasicBlock, size_of, last_of, StandFrom, EndWith, EndsSo, kind_found, block_of, is_followed, follow_of, EachHasOneBlock}
 use Rattle.demo_gen.specs.Demonstration.{demo_start, demo_entry, demo_length}
 use Rattle.demo_laws.specs.Accepted.{demo_of}
-use Rattle.demo_laws.specs.Sites.{placed, Stand, call_site, write_site, exit_site, function_site, number_added, HasDemoSites}
+use Rattle.demo_laws.specs.Sites.{placed, call_site, write_site, exit_site, function_site, number_added, HasDemoSites}
 use Rattle.demo_laws.specs.Runs.{second_site, is_negative}
 use Rattle.demo_laws.specs.Graph.{second_of}
 use Rattle.demo_laws.proofs.Edges.{Made, calls, jumps, returns}

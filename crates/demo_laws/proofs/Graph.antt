@@ -1,26 +1,25 @@
 -- The graph of the demonstration and the edges of its run is one list.
-use Rattle.std.proofs.Common.{◌≡◌, ℕ, zero, suc, ◌+◌, ◌-◌, ◌*◌, ◌<◌, ◌≤◌, Bool, true, false, List, [], ◌∷◌, ◌++◌, length, map, filter, Contains, IsTrue, Option, Some, None, ◌⊎◌, inl, inr, refl, sym, ap, ◌∙◌, subst, arith, length-append, lit≤}
-use Rattle.std.specs.Prelude.{All, Ok, if◌then◌else◌, option_to_list, ◌↔◌}
+use Rattle.std.proofs.Common.{◌≡◌, ℕ, zero, suc, ◌+◌, ◌-◌, ◌*◌, ◌<◌, ◌≤◌, Bool, true, false, List, [], ◌∷◌, ◌++◌, length, map, filter, Contains, IsTrue, Some, ◌⊎◌, inl, inr, refl, sym, ap, ◌∙◌, subst, arith, length-append, lit≤}
+use Rattle.std.specs.Prelude.{All, if◌then◌else◌, option_to_list}
 use Rattle.std.specs.List.Sorted.{IsStrictlyIncreasing}
 use Rattle.std.proofs.lemmas.List.Elements.{All-nil, All-cons, All-append, All-weaker, All-map, All-contains, All-contains_itself, Contains-append_left, Contains-append_right}
 use Rattle.br_word.specs.Memory.{AreBytes}
-use Rattle.elf_read.specs.Elf.{IsGuest, is_exec, elf}
-use Rattle.elf_read.specs.declared.exe.Reach.TheVariants.{Guest}
-use Rattle.run_model.specs.Edges.{Edge, edges_of}
+use Rattle.elf_read.specs.Elf.{IsGuest, is_exec}
+use Rattle.run_model.specs.Edges.{Edge}
 use Rattle.run_model.specs.Run.{AreOfBytes}
-use Rattle.sim_laws.specs.Counted.{AllCount, EdgesCount}
+use Rattle.sim_laws.specs.Counted.{EdgesCount}
 use Rattle.trace_file.specs.Edges.{ascends, in_order, SetsHold}
 use Rattle.trace_file.proofs.Union.{here, there, first_or_later}
 use Rattle.trace_file.proofs.Unique.{none}
 use Rattle.block_cut.specs.declared.ends.End.{End}
 use Rattle.block_cut.specs.declared.ends.End.TheVariants.{Transfer, Island, BeforeIsland, Unreadable, Full}
-use Rattle.block_cut.specs.Blocks.{BasicBlock, size_of, last_of, block_of, is_followed, follow_of, EachHasOneBlock}
+use Rattle.block_cut.specs.Blocks.{BasicBlock, last_of, is_followed, follow_of, EachHasOneBlock}
 use Rattle.block_cut.specs.CountedEdges.{counts, counting}
-use Rattle.flow_graph.specs.Graph.{Node, Leads, IsReached, IsStart, AreStarts, targets_from, known_by, known_of, starts_in, IsGraph}
-use Rattle.flow_graph.specs.GraphOf.{graph_of, OneGraph}
+use Rattle.flow_graph.specs.Graph.{Node, Leads, IsStart, AreStarts, targets_from, known_by, known_of, starts_in, IsGraph}
+use Rattle.flow_graph.specs.GraphOf.{OneGraph}
 use Rattle.flow_graph.proofs.Ascending.{From, of_up}
-use Rattle.demo_gen.specs.Demonstration.{demo_start, demo_entry, demo_length, demo_file}
-use Rattle.demo_laws.specs.Accepted.{demo_of, demo_segment, IsDemoAccepted}
+use Rattle.demo_gen.specs.Demonstration.{demo_entry, demo_file}
+use Rattle.demo_laws.specs.Accepted.{demo_of, IsDemoAccepted}
 use Rattle.demo_laws.specs.Sites.{call_site, write_site, exit_site, function_site, HasDemoSites}
 use Rattle.demo_laws.specs.Runs.{second_site, is_negative, demo_edges, IsDemoRun}
 use Rattle.demo_laws.specs.Graph.{leads, second_of, call_nodes, end_nodes, function_nodes, demo_nodes, IsSmall, IsDemoGraph}
