@@ -88,20 +88,43 @@ module _ (reach : Reach) (size : ℕ) (rest : List ℕ) (whole : length (headed 
   no_refusal : first_refused 1 (refusals reach (headed size rest)) ≡ None
   no_refusal =
       let file = headed size rest in
-      all_none 1 (refusals reach (headed size rest))
-      (no_place (nat_lt (length file) 52) (length file) None not_short refl,
-      (magic,
-      (versions,
-      (kind,
-      (machine,
-      (sizes _ ∙ no_place (nat_lt (length file) (field 4 28 file + 32 * field 2 44 file)) 28 None table_inside refl,
-      (ap (first_where is_other_kind) table_read,
-      (ap (first_where writes_code) loaded_read,
-      (ap (first_where (is_outside reach (length file))) loaded_read ∙ no_place (is_outside reach (length file) (head_with size)) 52 None not_outside refl,
-      (ap (first_below 0) loaded_read,
-      (no_place (not (holds_entry (field 4 24 file) (loaded file))) 24 None (ap not is_held) refl,
-      (ap (first_where has_more_bytes) table_read ∙ no_place (nat_lt size size) 52 None (le-ltb size size (omega arith)) refl,
-      (ap (first_past (most_segments reach) (most_memory reach)) loaded_read ∙ no_place (nat_eq (most_segments reach) 0 || nat_lt (most_memory reach) size) 52 None not_past refl, tt)))))))))))))
+      all_none 1 (refusals reach (headed size rest)) (
+        no_place (nat_lt (length file) 52) (length file) None not_short refl,
+        (
+          magic,
+          (
+            versions,
+            (
+              kind,
+              (
+                machine,
+                (
+                  sizes _ ∙ no_place (nat_lt (length file) (field 4 28 file + 32 * field 2 44 file)) 28 None table_inside refl,
+                  (
+                    ap (first_where is_other_kind) table_read,
+                    (
+                      ap (first_where writes_code) loaded_read,
+                      (
+                        ap (first_where (is_outside reach (length file))) loaded_read ∙ no_place (is_outside reach (length file) (head_with size)) 52 None not_outside refl,
+                        (
+                          ap (first_below 0) loaded_read,
+                          (
+                            no_place (not (holds_entry (field 4 24 file) (loaded file))) 24 None (ap not is_held) refl,
+                            (
+                              ap (first_where has_more_bytes) table_read ∙ no_place (nat_lt size size) 52 None (le-ltb size size (omega arith)) refl,
+                              (ap (first_past (most_segments reach) (most_memory reach)) loaded_read ∙ no_place (nat_eq (most_segments reach) 0 || nat_lt (most_memory reach) size) 52 None not_past refl, tt),
+                            ),
+                          ),
+                        ),
+                      ),
+                    ),
+                  ),
+                ),
+              ),
+            ),
+          ),
+        ),
+      )
 
   segments_read : map (segment_of (headed size rest)) (loaded (headed size rest)) ≡ (record { start = demo_start; size = size; perms = record { read = true; write = false; exec = true }; bytes = headed size rest }) ∷ []
   segments_read =

@@ -102,7 +102,7 @@ module _ (count : ℕ) (few : count ≤ 1000) (sites : HasDemoSites count) where
         let v = wrap (call_site i + 5) in
         let to = wrap (call_site i + 5 + d) in
         let g : Goes 1 s (state count to (inner eax) flags (with_word stack v) []) ((call_site i, to) ∷ []) =
-            by_store s (Call d) 5 0xBFFFFFDC v (memory count (with_word stack v)) (inner eax) (To to) refl f refl (store_here count v stack k) in
+        by_store s (Call d) 5 0xBFFFFFDC v (memory count (with_word stack v)) (inner eax) (To to) refl f refl (store_here count v stack k) in
         let e : v ≡ call_site (suc i) = omega (arith, h) in
         let there : to ≡ function_site count i = omega (arith, h) in
         let g2 = subst (λ v. Goes 1 s (state count to (inner eax) flags (with_word stack v) []) ((call_site i, to) ∷ [])) e g in
@@ -121,7 +121,7 @@ module _ (count : ℕ) (few : count ≤ 1000) (sites : HasDemoSites count) where
         let to = wrap (function_site count i + 6) in
         let v = (eax + x + 0) % 2 ^ 32 in
         let g : Goes 1 s (state count to (inner v) (sum_flags eax) stack []) [] =
-            by_end s (Alu 0 B32 (Reg 0) (Imm x)) 6 (inner v) (all_set (sum_flags eax)) (Past 6) refl f refl in
+        by_end s (Alu 0 B32 (Reg 0) (Imm x)) 6 (inner v) (all_set (sum_flags eax)) (Past 6) refl f refl in
         let e : v ≡ sum_of count i eax = ap (λ n. n % 2 ^ 32) (omega arith) in
         let there : to ≡ function_site count i + 6 = omega (arith, h) in
         let g2 = subst (λ v. Goes 1 s (state count to (inner v) (sum_flags eax) stack []) []) e g in
@@ -136,7 +136,7 @@ module _ (count : ℕ) (few : count ≤ 1000) (sites : HasDemoSites count) where
         let f = seen at 2 (Jcc 8 2) stack (omega (arith, h), omega (arith, h)) (sites.function i h).2.1 in
         let to : Bool → NextEip = λ b. if b then To (wrap (at + 2 + 2)) else Past 2 in
         let g : Goes 1 s (state count (next_eip (to flags.sf) at) (inner sum) flags stack []) ((at, next_eip (to flags.sf) at) ∷ []) =
-            by_ask s (Jcc 8 2) 2 SF (inner sum) to refl f refl refl in
+        by_ask s (Jcc 8 2) 2 SF (inner sum) to refl f refl refl in
         let g2 = subst (λ b. Goes 1 s (state count (next_eip (to b) at) (inner sum) flags stack []) ((at, next_eip (to b) at) ∷ [])) e g in
         subst (λ to. Goes 1 s (state count to (inner sum) flags stack []) ((at, to) ∷ [])) (there b) g2
       where
@@ -175,7 +175,7 @@ module _ (count : ℕ) (few : count ≤ 1000) (sites : HasDemoSites count) where
       let s = state count at (outer v) flags stack [] in
       let f = seen at 1 (Push (Rm (Reg 0))) stack (omega arith, omega arith) sites.write.1 in
       let g : Goes 1 s (state count (wrap (at + 1)) (inner v) flags (with_word stack v) []) [] =
-          by_store s (Push (Rm (Reg 0))) 1 0xBFFFFFDC v (memory count (with_word stack v)) (inner v) (Past 1) refl f refl (store_here count v stack k) in
+      by_store s (Push (Rm (Reg 0))) 1 0xBFFFFFDC v (memory count (with_word stack v)) (inner v) (Past 1) refl f refl (store_here count v stack k) in
       let e : wrap (at + 1) ≡ at + 1 = omega arith in
       subst (λ to. Goes 1 s (state count to (inner v) flags (with_word stack v) []) []) e g
 
@@ -218,7 +218,7 @@ module _ (count : ℕ) (few : count ≤ 1000) (sites : HasDemoSites count) where
       let to = wrap (at + 2) in
       let b = ap (option_map (λ bs. take 4 bs)) (read_here count v stack few k) ∙ ap Some (word_back stack v k) in
       let g : Goes 1 s (state count to regs flags (with_word stack v) (word v)) [] =
-          one_step s (state count to regs flags (with_word stack v) (word v)) Int80 2 refl f (ap (λ o. or_bad 0xBFFFFFDC o (λ bs. On (record (answers 4 to s) { out = [] ++ bs }))) b) tt in
+      one_step s (state count to regs flags (with_word stack v) (word v)) Int80 2 refl f (ap (λ o. or_bad 0xBFFFFFDC o (λ bs. On (record (answers 4 to s) { out = [] ++ bs }))) b) tt in
       let there : to ≡ exit_site count = omega arith in
       subst (λ to. Goes 1 s (state count to regs flags (with_word stack v) (word v)) []) there g
 

@@ -119,12 +119,13 @@ at_function : (count i : ℕ) → i < count → (rest : List ℕ) × At count (1
 at_function count i h =
     let r = functions_passed count i count h in
     let e : 121 + 5 * count + 11 * i ≡ (89 + 5 * count) + (32 + 11 * i) = omega arith in
-    let f = functions_code count count in
-    (r.0,
-    ap (λ n. drop n (demo_file count)) e
-    ∙ further count (89 + 5 * count) (32 + 11 * i) (ends count) (at_write count)
-    ∙ sym (drop-drop (11 * i) 32 (ends count))
-    ∙ r.1)
+    let f = functions_code count count in (
+      r.0,
+      ap (λ n. drop n (demo_file count)) e
+          ∙ further count (89 + 5 * count) (32 + 11 * i) (ends count) (at_write count)
+          ∙ sym (drop-drop (11 * i) 32 (ends count))
+          ∙ r.1,
+    )
 
 number_small : (x i : ℕ) → number_added x i < 2 ^ 32
 number_small x zero = mod_below (1103515245 * x + 12345) (2 ^ 32) (omega arith)
@@ -154,13 +155,27 @@ module _ (count : ℕ) (few : count ≤ 1000) where
   write_stands : Stand (demo_of count) (write_site count) write_part
   write_stands =
       let behind = exit_code ++ functions_code count count in
-      let at = next (write_site count) (89 + 5 * count) (ends count) (omega arith) (omega arith) (at_write count) in
-      (refl, at 0 _ 1 (omega arith) (write_site count) (omega arith) (push_eax (drop 1 (ends count))),
-      (refl, at 1 _ 5 (omega arith) (write_site count + 1) (omega arith) (move_eax 4 (drop 6 (ends count))),
-      (refl, at 6 _ 5 (omega arith) (write_site count + 1 + 5) (omega arith) (move_ebx 1 (drop 11 (ends count))),
-      (refl, at 11 _ 2 (omega arith) (write_site count + 1 + 5 + 5) (omega arith) (move_esp (drop 13 (ends count))),
-      (refl, at 13 _ 5 (omega arith) (write_site count + 1 + 5 + 5 + 2) (omega arith) (move_edx 4 (drop 18 (ends count))),
-      (refl, at 18 _ 2 (omega arith) (write_site count + 1 + 5 + 5 + 2 + 5) (omega arith) (system_call (drop 20 (ends count))), tt))))))
+      let at = next (write_site count) (89 + 5 * count) (ends count) (omega arith) (omega arith) (at_write count) in (
+        refl,
+        at 0 _ 1 (omega arith) (write_site count) (omega arith) (push_eax (drop 1 (ends count))),
+        (
+          refl,
+          at 1 _ 5 (omega arith) (write_site count + 1) (omega arith) (move_eax 4 (drop 6 (ends count))),
+          (
+            refl,
+            at 6 _ 5 (omega arith) (write_site count + 1 + 5) (omega arith) (move_ebx 1 (drop 11 (ends count))),
+            (
+              refl,
+              at 11 _ 2 (omega arith) (write_site count + 1 + 5 + 5) (omega arith) (move_esp (drop 13 (ends count))),
+              (
+                refl,
+                at 13 _ 5 (omega arith) (write_site count + 1 + 5 + 5 + 2) (omega arith) (move_edx 4 (drop 18 (ends count))),
+                (refl, at 18 _ 2 (omega arith) (write_site count + 1 + 5 + 5 + 2 + 5) (omega arith) (system_call (drop 20 (ends count))), tt),
+              ),
+            ),
+          ),
+        ),
+      )
 
   at_exit : At count (109 + 5 * count) (exit_code ++ functions_code count count)
   at_exit =
@@ -170,10 +185,15 @@ module _ (count : ℕ) (few : count ≤ 1000) where
   exit_stands : 1 ≤ count → Stand (demo_of count) (exit_site count) exit_part
   exit_stands some =
       let f = functions_code count count in
-      let at = next (exit_site count) (109 + 5 * count) (exit_code ++ f) (omega arith) (omega arith) at_exit in
-      (refl, at 0 _ 5 (omega arith) (exit_site count) (omega arith) (move_eax 1 (drop 5 (exit_code ++ f))),
-      (refl, at 5 _ 5 (omega arith) (exit_site count + 5) (omega arith) (move_ebx 0 (drop 10 (exit_code ++ f))),
-      (refl, at 10 _ 2 (omega arith) (exit_site count + 5 + 5) (omega arith) (system_call (drop 12 (exit_code ++ f))), tt)))
+      let at = next (exit_site count) (109 + 5 * count) (exit_code ++ f) (omega arith) (omega arith) at_exit in (
+        refl,
+        at 0 _ 5 (omega arith) (exit_site count) (omega arith) (move_eax 1 (drop 5 (exit_code ++ f))),
+        (
+          refl,
+          at 5 _ 5 (omega arith) (exit_site count + 5) (omega arith) (move_ebx 0 (drop 10 (exit_code ++ f))),
+          (refl, at 10 _ 2 (omega arith) (exit_site count + 5 + 5) (omega arith) (system_call (drop 12 (exit_code ++ f))), tt),
+        ),
+      )
 
   module _ (i : ℕ) (h : i < count) where
     rest : List ℕ
@@ -193,11 +213,19 @@ module _ (count : ℕ) (few : count ≤ 1000) where
     function_stands : Stand (demo_of count) (function_site count i) (function_part (number_added count i))
     unfolding bytes bytes_of
     function_stands =
-        let x = number_added count i in
-        (refl, one_of 0 _ 6 (omega arith) (function_site count i) (omega arith) (add_again x (0x78 ∷ 0x02 ∷ 0xF7 ∷ 0xD0 ∷ 0xC3 ∷ rest) (number_small count i)),
-        (refl, one_of 6 _ 2 (omega arith) (function_site count i + 6) (omega arith) (jump_sign (0xF7 ∷ 0xD0 ∷ 0xC3 ∷ rest)),
-        (refl, one_of 8 _ 2 (omega arith) (function_site count i + 6 + 2) (omega arith) (invert_eax (0xC3 ∷ rest)),
-        (refl, one_of 10 _ 1 (omega arith) (function_site count i + 6 + 2 + 2) (omega arith) (return rest), tt))))
+        let x = number_added count i in (
+          refl,
+          one_of 0 _ 6 (omega arith) (function_site count i) (omega arith) (add_again x (0x78 ∷ 0x02 ∷ 0xF7 ∷ 0xD0 ∷ 0xC3 ∷ rest) (number_small count i)),
+          (
+            refl,
+            one_of 6 _ 2 (omega arith) (function_site count i + 6) (omega arith) (jump_sign (0xF7 ∷ 0xD0 ∷ 0xC3 ∷ rest)),
+            (
+              refl,
+              one_of 8 _ 2 (omega arith) (function_site count i + 6 + 2) (omega arith) (invert_eax (0xC3 ∷ rest)),
+              (refl, one_of 10 _ 1 (omega arith) (function_site count i + 6 + 2 + 2) (omega arith) (return rest), tt),
+            ),
+          ),
+        )
 
 pub sites : (count : ℕ) → 1 ≤ count → count ≤ 1000 → HasDemoSites count
 sites count some few = record {
