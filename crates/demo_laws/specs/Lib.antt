@@ -1,0 +1,4 @@
+pub mod Accepted
+pub mod Sites
+pub mod Runs
+pub mod Graph
