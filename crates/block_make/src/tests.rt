@@ -197,7 +197,7 @@ fn fragments_are_made(rt: HostRuntime) -> Result<(), Fail> {
     let made = make(rt.alloc(), &exe, &key, &mut steps)?;
     assert_eq!(rt; made.len(), 123);
     assert_eq!(rt; made.byte(0), 0xfc);
-    assert!(rt; &made.bytes()[..118] == RESTORE.as_slice());
+    assert!(rt; made.bytes().starts_with(&RESTORE));
     assert!(rt; made.fixes() == [original(119, START + 1)].as_slice());
     Ok(())
 }
