@@ -4,7 +4,8 @@
 usage: bench.py [--repeat N] [--only WORD] [--reference "PROGRAM WORD.." | --alone] PROGRAM [WORD..]
 
 Each line has the size, the processor time (the least of N runs), the time for one unit of the size, the most memory of the
-process (what is below that of this script, some 15 MiB, is not seen), and the ratios of time and memory to the reference. Time for one unit that stays the same down a table is growth
+process (what is below that of this script, some 15 MiB, is not seen), and the ratios of time and memory to the reference: x0.5 is half of what the
+reference takes, so lower is better. Time for one unit that stays the same down a table is growth
 in proportion to size. The reference is built with cargo from ../shared/oracle where that folder is there.
 """
 import argparse, os, shlex, shutil, struct, subprocess, sys, tempfile
