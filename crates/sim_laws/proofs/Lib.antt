@@ -5,3 +5,4 @@ pub mod RunsInCode
 pub mod EdgesCounted
 pub mod BlocksRun
 pub mod KnownExitsTaken
+pub mod FewerMarks

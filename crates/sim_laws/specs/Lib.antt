@@ -6,3 +6,4 @@ pub mod InCode
 pub mod Counted
 pub mod Through
 pub mod KnownExits
+pub mod FewerMarks
