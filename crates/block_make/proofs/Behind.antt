@@ -40,12 +40,6 @@ any_default [] i d e l = absurd (omega arith)
 any_default (x ∷ xs) zero d e l = refl
 any_default (x ∷ xs) (suc i) d e l = any_default xs i d e (omega arith)
 
--- marks of lines
-pub marks_more : (mark : Bool) (lines : List Line) (i : ℕ) (all marks more : List Bool) → i < length lines → all ≡ marks ++ map (λ (l : Line). mark) (drop i lines) → more ≡ marks ++ mark ∷ [] → all ≡ more ++ map (λ (l : Line). mark) (drop (i + 1) lines)
-marks_more mark lines i all marks more l a m =
-    over all marks more (mark ∷ []) (map (λ (l : Line). mark) (drop i lines)) (map (λ (l : Line). mark) (drop (i + 1) lines)) a
-    (ap (λ xs. map (λ (l : Line). mark) xs) (split lines i Gone l)) m
-
 -- ---- lines
 
 module _ (home place : ℕ → Place) (keep : ℕ → Bool) (lines : List Line) where
@@ -121,9 +115,6 @@ dropped (x ∷ xs) (suc i) l = dropped xs i (omega arith)
 
 ended : {A : Type 0} (all p rest : List A) → rest ≡ [] → all ≡ p ++ rest → all ≡ p
 ended all p rest r a = a ∙ ap (λ xs. p ++ xs) r ∙ append-nil p
-
-pub marks_done : (mark : Bool) (lines : List Line) (i : ℕ) (all marks : List Bool) → length lines ≤ i → all ≡ marks ++ map (λ (l : Line). mark) (drop i lines) → all ≡ marks
-marks_done mark lines i all marks l a = ended all marks (map (λ (x : Line). mark) (drop i lines)) (ap (λ xs. map (λ (x : Line). mark) xs) (dropped lines i l)) a
 
 pub lines_done : (home place : ℕ → Place) (keep : ℕ → Bool) (lines : List Line) (i : ℕ) (all p : List Item) → length lines ≤ i → all ≡ p ++ lines_left home place keep lines i → all ≡ p
 lines_done home place keep lines i all p l a = ended all p (lines_left home place keep lines i) (ap (λ xs. map item.Inst (lines_code home place (kept keep (numbered i xs)))) (dropped lines i l)) a

@@ -64,7 +64,7 @@ one_count Parity x r = omega arith
 one_count Sext8 x r = omega arith
 one_count Sext16 x r = omega arith
 
-line_count : (home place : ℕ → Place) (i : ℕ) (l : Line) → length (line_code home place i l) ≤ 6
+pub line_count : (home place : ℕ → Place) (i : ℕ) (l : Line) → length (line_code home place i l) ≤ 6
 line_count home place i (Bin op x y) = bin_count op (held_by home place x) (held_by home place y) (place i)
 line_count home place i (One op x) = one_count op (held_by home place x) (place i)
 line_count home place i (Select c x y) = omega arith

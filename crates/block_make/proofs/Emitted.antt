@@ -16,12 +16,11 @@ use Rattle.emit_ops.specs.Placed.{place_at}
 use Rattle.block_make.specs.declared.prepared.Prepared.{Prepared}
 use Rattle.block_make.specs.Choices.{place_in}
 use Rattle.block_make.specs.Prepared.{ArePlaced, IsPrepared, choice_in}
-use Rattle.block_make.proofs.Splits.{IsWhole, whole, outs_held}
+use Rattle.block_make.proofs.Splits.{IsWhole, whole, found_fits, outs_found}
 use Rattle.block_make.proofs.Sequence.{AllFit, fit_sequenced, live_fit, apart, no_spare}
-use Rattle.block_make.proofs.Validity.{fits}
 
 pub as_placed : (b : Block) (s : Split) (places : List (Rattle.std.specs.Prelude.Option Place)) → ArePlaced b s places → ArePlaced b s (placed b s)
-as_placed b s places h = record { whole = h.whole; words = h.words; exit = h.exit; few = h.few; body = h.body; sunk = h.sunk; every = h.every; given = refl }
+as_placed b s places h = record { whole = h.whole; words = h.words; exit = h.exit; few = h.few; split = h.split; given = refl; each = h.each; lie = h.lie; homes = h.homes }
 
 module _ (p : Prepared) (h : IsPrepared p) (live : ℕ → Bool) where
   abbrev pub moved : List PlaceMove
@@ -33,13 +32,13 @@ module _ (p : Prepared) (h : IsPrepared p) (live : ℕ → Bool) where
   moved_fit : AllFit moved
   moved_fit =
       let n = count in
-      live_fit (place_in (choice_in p)) live 0 p.block.outs (omega (arith, n)) (λ k l. fits (placed p.block p.split) (get_or p.block.outs k (val.Num 0)) (outs_held p.block p.split (placed p.block p.split) (as_placed p.block p.split p.places.items h) k l))
+      live_fit h.homes (place_in (choice_in p)) live 0 p.block.outs (omega (arith, n)) (λ k l. found_fits h.homes (placed p.block p.split) (get_or p.block.outs k (val.Num 0)) (outs_found p.block p.split (placed p.block p.split) (as_placed p.block p.split p.places.items h) k l))
 
   pub given_apart : (slice : List PlaceMove) → slice ≡ moved → AreApart slice
-  given_apart slice e = subst AreApart (sym e) (apart (place_in (choice_in p)) live p.block.outs)
+  given_apart slice e = subst AreApart (sym e) (apart h.homes (place_in (choice_in p)) live p.block.outs count)
 
   pub given_no_spare : (slice : List PlaceMove) → slice ≡ moved → All (λ m. same_place m.to spare ≡ false) slice
-  given_no_spare slice e = subst (λ (ms : List PlaceMove). All (λ m. same_place m.to spare ≡ false) ms) (sym e) (no_spare (place_in (choice_in p)) live p.block.outs count)
+  given_no_spare slice e = subst (λ (ms : List PlaceMove). All (λ m. same_place m.to spare ≡ false) ms) (sym e) (no_spare h.homes (place_in (choice_in p)) live p.block.outs count)
 
   pub ordered_fit : (slice ordered : List PlaceMove) → slice ≡ moved → ordered ≡ sequenced (length slice) slice → AllFit ordered
   ordered_fit slice ordered e o = subst AllFit (sym (o ∙ ap (λ (ms : List PlaceMove). sequenced (length ms) ms) e)) (fit_sequenced (length moved) moved moved_fit)

@@ -28,32 +28,35 @@ use Rattle.ssa_form.specs.Same.{rows}
 use Rattle.par_moves.specs.declared.locations.Place.{Place}
 use Rattle.par_moves.specs.Homes.{home_of, register_homes}
 use Rattle.par_moves.specs.Locations.{IsFit}
+use Rattle.reg_place.specs.Laws.{EachPlaced, HomesLie, OfSplits, PlacesLie}
 use Rattle.reg_place.specs.Places.{is_in, placed}
 use Rattle.emit_ops.specs.Templates.{eax, held_by, move_code}
-use Rattle.emit_ops.specs.Placed.{place_at, IsHeld, AreHeld}
+use Rattle.emit_ops.specs.Placed.{place_at, AreHeld}
 use Rattle.emit_ops.specs.Sequences.{kept, lines_code, moves_code, live_moves, in_order}
 use Rattle.fall_stubs.specs.Exchange.{opening_items, island_items}
 use Rattle.block_make.specs.declared.fragment.TheConstants.{MAX_EXITS}
 use Rattle.block_make.specs.Choices.{Choice, choice_of, place_in, ready}
 use Rattle.block_make.specs.FragmentItems.{lines_items, moves_items, source_in, tail_items, regain_items, stub_items, part_items, cond_items, aim_items, compare_items, tails_items, way_stub_items, dest_of, own_bytes, exit_items, items_of}
 use Rattle.block_make.specs.Keys.{live_at, has}
-use Rattle.block_make.specs.Prepared.{SpellsFew, ArePlaced}
-use Rattle.block_make.specs.Laws.{AreWords, IsLifted}
-use Rattle.block_make.proofs.Splits.{IsWhole, whole, placed_so, ExitHeld, exit_held, lines_held, outs_held}
+use Rattle.block_make.specs.Prepared.{SpellsFew, IsFound, is_done, ArePlaced}
+use Rattle.block_make.specs.Laws.{AreWords, IsLifted, SplitsAreClosed}
+use Rattle.block_make.proofs.Splits.{IsWhole, whole, found_fits, ExitFound, exit_found, lines_held, outs_found}
+use Rattle.block_make.proofs.Placing.{placed_so, body_done, sunk_done}
 use Rattle.block_make.proofs.Sequence.{AllFit, fit_sequenced, sequenced_length, live_fit, live_length}
-use Rattle.block_make.proofs.Validity.{into, fits, moves_valid, RowsHeld, lines_valid, puts_valid, valid_append, opening_valid, island_valid, lack_append, lack_puts, puts_distinct, HasOne, distinct_append, opening_one, island_distinct}
+use Rattle.block_make.proofs.Validity.{into, moves_valid, RowsHeld, lines_valid, puts_valid, valid_append, opening_valid, island_valid, lack_append, lack_puts, puts_distinct, HasOne, distinct_append, opening_one, island_distinct}
 use Rattle.block_make.proofs.Counts.{AreShort, size_most, lines_count, rows_count, moves_count}
 
 -- no encoding is longer than fifteen bytes
 pub short : ((i : Inst) (rest : List ℕ) → valid_of i ≡ true → decode_of (canonical i ++ rest) ≡ Some (i, length (canonical i))) → ((bs : List ℕ) (i : Inst) (n : ℕ) → decode_of bs ≡ Some (i, n) → (1 ≤ n) × (n ≤ 15) × (n ≤ length bs)) → AreShort
 short trip most i v = (most (canonical i ++ []) i (length (canonical i)) (trip i [] v)).1
 
-rows_held : (places : List (Option Place)) (ls : List Line) (i : ℕ) → ((k : ℕ) → k < length ls → AreHeld places (i + k) (get_or ls k Gone)) → RowsHeld places (numbered i ls)
-rows_held places [] i h = tt
-rows_held places (l ∷ ls) i h =
-    let z : i + 0 ≡ i = omega arith in (
-      subst (λ (j : ℕ). AreHeld places j l) z (h 0 (omega arith)),
-      rows_held places ls (suc i) (λ k lt. let e : i + suc k ≡ suc i + k = omega arith in subst (λ (j : ℕ). AreHeld places j (get_or ls k Gone)) e (h (suc k) (omega arith))),
+rows_held : (places : List (Option Place)) (keep : ℕ → Bool) (ls : List Line) (i : ℕ) → ((k : ℕ) → k < length ls → keep (i + k) ≡ true → AreHeld places (i + k) (get_or ls k Gone)) → RowsHeld places keep (numbered i ls)
+rows_held places keep [] i h = tt
+rows_held places keep (l ∷ ls) i h =
+    let z : i + 0 ≡ i = omega arith in
+    let P : ℕ → Line → Type 0 = λ j x. keep j ≡ true → AreHeld places j x in (
+      subst (λ (j : ℕ). P j l) z (h 0 (omega arith)),
+      rows_held places keep ls (suc i) (λ k lt. let e : i + suc k ≡ suc i + k = omega arith in subst (λ (j : ℕ). P j (get_or ls k Gone)) e (h (suc k) (omega arith))),
     )
 
 pub words_all : (es : List (ℕ × ℕ)) → ((k : ℕ) → k < length es → (get_or es k (0, 0)).0 < 2 ^ 32) → AreWords es
@@ -68,9 +71,17 @@ module _ (c : Choice) (h : ArePlaced c.block c.split (placed c.block c.split)) w
   abbrev places : List (Option Place)
   places = placed c.block c.split
 
-  lines_ok : (set : List Bool) → AreValid (lines_items c set)
-  lines_ok set = puts_valid (lines_code home_of (place_in c) (kept (is_in set) (rows c.block)))
-      (lines_valid places (is_in set) (rows c.block) (rows_held places c.block.lines 0 (λ k l. let z : k ≡ 0 + k = omega arith in subst (λ (j : ℕ). AreHeld places j (get_or c.block.lines k Gone)) z (lines_held c.block c.split places h k l))))
+  lines_ok : (set : List Bool) → ((i : ℕ) → is_in set i ≡ true → is_done c.split i ≡ true) → AreValid (lines_items c set)
+  lines_ok set done =
+      let P : ℕ → ℕ → Type 0 = λ k j. is_in set j ≡ true → AreHeld places j (get_or c.block.lines k Gone) in
+      puts_valid (lines_code home_of (place_in c) (kept (is_in set) (rows c.block)))
+      (lines_valid h.homes places (is_in set) (rows c.block) (rows_held places (is_in set) c.block.lines 0 (λ k l. let z : k ≡ 0 + k = omega arith in subst (P k) z (λ d. lines_held c.block c.split places h k l (done k d)))))
+
+  body_ok : AreValid (lines_items c c.split.body)
+  body_ok = lines_ok c.split.body (body_done c.split)
+
+  sunk_ok : AreValid (lines_items c c.split.sunk)
+  sunk_ok = lines_ok c.split.sunk (sunk_done c.split)
 
   lines_few : (set : List Bool) → length (lines_items c set) ≤ 12288
   lines_few set =
@@ -85,7 +96,7 @@ module _ (c : Choice) (h : ArePlaced c.block c.split (placed c.block c.split)) w
       let ms = live_moves home_of (place_in c) live 0 c.block.outs in
       let n = (whole c.block h.whole).count in
       puts_valid (moves_code (in_order ms)) (moves_valid (in_order ms) (fit_sequenced (length ms) ms
-      (live_fit (place_in c) live 0 c.block.outs (omega arith) (λ k l. fits places (get_or c.block.outs k (val.Num 0)) (outs_held c.block c.split places h k l)))))
+      (live_fit h.homes (place_in c) live 0 c.block.outs (omega arith) (λ k l. found_fits h.homes places (get_or c.block.outs k (val.Num 0)) (outs_found c.block c.split places h k l)))))
 
   moves_few : (live : ℕ → Bool) → length (moves_items c live) ≤ 56
   moves_few live =
@@ -108,7 +119,7 @@ module _ (c : Choice) (h : ArePlaced c.block c.split (placed c.block c.split)) w
       omega (arith, a, e)
 
   regain_ok : (label : ℕ) → AreValid (regain_items c label)
-  regain_ok label = valid_append (lines_items c c.split.sunk) (moves_items c (λ v. true) ++ opening_items register_homes label) (lines_ok c.split.sunk)
+  regain_ok label = valid_append (lines_items c c.split.sunk) (moves_items c (λ v. true) ++ opening_items register_homes label) sunk_ok
       (valid_append (moves_items c (λ v. true)) (opening_items register_homes label) (moves_ok (λ v. true)) (opening_valid label))
 
   regain_few : (label : ℕ) → length (regain_items c label) ≤ 12400
@@ -117,7 +128,7 @@ module _ (c : Choice) (h : ArePlaced c.block c.split (placed c.block c.split)) w
       let b = moves_few (λ v. true) in
       let d = length-append (lines_items c c.split.sunk) (moves_items c (λ v. true) ++ opening_items register_homes label) in
       let e = length-append (moves_items c (λ v. true)) (opening_items register_homes label) in
-      let f : length (opening_items register_homes label) ≡ 29 = refl in
+      let f : length (opening_items register_homes label) ≡ 32 = refl in
       omega (arith, a, b, d, e, f)
 
   stub_ok : (label y : ℕ) → AreValid (stub_items c label y)
@@ -138,20 +149,17 @@ module _ (c : Choice) (h : ArePlaced c.block c.split (placed c.block c.split)) w
   part_few label y (Some set) = let a = tail_few set y in omega (arith, a)
 
   -- ---- exits
-  source_fits : (v : Val) → IsHeld places v → IsFit (source_in c v)
-  source_fits v i = fits places v i
-
-  cond_ok : (test : Val) (next taken : List Item) → IsHeld places test → AreValid next → AreValid taken → AreValid (cond_items c test next taken)
-  cond_ok test next taken i n t = (into 0 (source_in c test) (omega arith) (source_fits test i), (refl, (omega arith, valid_append next (item.Label 2 ∷ taken) n t)))
+  cond_ok : (test : Val) (next taken : List Item) → IsFound places test → AreValid next → AreValid taken → AreValid (cond_items c test next taken)
+  cond_ok test next taken i n t = (into 0 (source_in c test) (omega arith) (found_fits h.homes places test i), (refl, (omega arith, valid_append next (item.Label 2 ∷ taken) n t)))
 
   cond_few : (test : Val) (next taken : List Item) → length next ≤ 12401 → length taken ≤ 12401 → length (cond_items c test next taken) ≤ 25000
   cond_few test next taken n t = let e = length-append next (item.Label 2 ∷ taken) in omega (arith, e, n, t)
 
-  aim_ok : (v : Val) → IsHeld places v → AreValid (aim_items c v)
-  aim_ok v i = (into 0 (source_in c v) (omega arith) (source_fits v i), tt)
+  aim_ok : (v : Val) → IsFound places v → AreValid (aim_items c v)
+  aim_ok v i = (into 0 (source_in c v) (omega arith) (found_fits h.homes places v i), tt)
 
-  way_stub_ok : (v : Val) → IsHeld places v → AreValid (way_stub_items c v)
-  way_stub_ok v i = (into 0 (source_in c v) (omega arith) (source_fits v i), (refl, valid_append (regain_items c 0) _ (regain_ok 0) (refl, tt)))
+  way_stub_ok : (v : Val) → IsFound places v → AreValid (way_stub_items c v)
+  way_stub_ok v i = (into 0 (source_in c v) (omega arith) (found_fits h.homes places v i), (refl, valid_append (regain_items c 0) _ (regain_ok 0) (refl, tt)))
 
   way_stub_few : (v : Val) → length (way_stub_items c v) ≤ 12403
   way_stub_few v =
@@ -179,7 +187,7 @@ module _ (c : Choice) (h : ArePlaced c.block c.split (placed c.block c.split)) w
       let n = length-append (tail_items c e.1 e.0) (tails_items c (suc label) es) in
       omega (arith, a, t, n)
 
-  pub exit_ok : (exe : Exe) (key : BlockKey) (e : Exit) → AreWords key.exits → ExitHeld c.block c.split places h e → AreValid (exit_items exe key c e)
+  pub exit_ok : (exe : Exe) (key : BlockKey) (e : Exit) → AreWords key.exits → ExitFound c.block c.split places h e → AreValid (exit_items exe key c e)
   exit_ok exe key (exits.Jump to) w x = part_ok 0 to (live_at key.exits to)
   exit_ok exe key (exits.Cond test taken next) w x = cond_ok test (part_items c 0 next (live_at key.exits next)) (part_items c 1 taken (live_at key.exits taken)) x (part_ok 0 next (live_at key.exits next)) (part_ok 1 taken (live_at key.exits taken))
   exit_ok exe key (exits.Way v) w x =
@@ -198,8 +206,8 @@ module _ (c : Choice) (h : ArePlaced c.block c.split (placed c.block c.split)) w
       let a = length-append (opening_items register_homes label) (map item.Byte bytes ++ Rattle.fall_stubs.specs.Exchange.closing_items register_homes next) in
       let b = length-append (map item.Byte bytes) (Rattle.fall_stubs.specs.Exchange.closing_items register_homes next) in
       let d = length-map bytes item.Byte in
-      let f : length (opening_items register_homes label) ≡ 29 = refl in
-      let g : length (Rattle.fall_stubs.specs.Exchange.closing_items register_homes next) ≡ 14 = refl in
+      let f : length (opening_items register_homes label) ≡ 32 = refl in
+      let g : length (Rattle.fall_stubs.specs.Exchange.closing_items register_homes next) ≡ 17 = refl in
       omega (arith, l, a, b, d, f, g)
 
   pub exit_few : (exe : Exe) (key : BlockKey) (e : Exit) → length key.exits ≤ MAX_EXITS → SpellsFew e → length (exit_items exe key c e) ≤ 5000000
@@ -222,7 +230,7 @@ module _ (c : Choice) (h : ArePlaced c.block c.split (placed c.block c.split)) w
 
   -- ---- fragments
   pub all_valid : (exe : Exe) (key : BlockKey) → AreWords key.exits → AreValid (lines_items c c.split.body ++ exit_items exe key c c.block.exit)
-  all_valid exe key w = valid_append (lines_items c c.split.body) (exit_items exe key c c.block.exit) (lines_ok c.split.body) (exit_ok exe key c.block.exit w (exit_held c.block c.split places h))
+  all_valid exe key w = valid_append (lines_items c c.split.body) (exit_items exe key c c.block.exit) body_ok (exit_ok exe key c.block.exit w (exit_found c.block c.split places h))
 
   pub all_short : AreShort → (exe : Exe) (key : BlockKey) → AreWords key.exits → length key.exits ≤ MAX_EXITS → size_of_items (lines_items c c.split.body ++ exit_items exe key c c.block.exit) < 2 ^ 32
   all_short s exe key w m =
@@ -233,8 +241,8 @@ module _ (c : Choice) (h : ArePlaced c.block c.split (placed c.block c.split)) w
       omega (arith, a, b, d, e)
 
 -- given a block as lifting makes it
-pub items_valid : (exe : Exe) (key : BlockKey) → IsLifted (ready exe key.start) → AreWords key.exits → AreValid (items_of exe key)
+pub items_valid : SplitsAreClosed → OfSplits EachPlaced → PlacesLie → HomesLie → (exe : Exe) (key : BlockKey) → IsLifted (ready exe key.start) → AreWords key.exits → AreValid (items_of exe key)
 unfolding items_of
-items_valid exe key h w =
+items_valid closed each lie homes exe key h w =
     let c = choice_of exe key in
-    all_valid c (placed_so (ready exe key.start) key (placed c.block c.split) h.whole h.words h.exit h.few refl) exe key w
+    all_valid c (placed_so closed each lie homes (ready exe key.start) key (placed c.block c.split) h.whole h.words h.exit h.few refl) exe key w

@@ -8,3 +8,8 @@ pub mod Fragments
 pub mod Native
 pub mod Distinct
 pub mod Emitted
+pub mod Passed
+pub mod Closing
+pub mod Placing
+pub mod Sizes
+pub mod CodesShort

@@ -1,17 +1,16 @@
 -- The moves of a live set may be given to `sequence`, and stay fit in its order.
 use Rattle.std.proofs.Common.{◌≡◌, ◌≢◌, ℕ, zero, suc, ◌+◌, ◌*◌, ◌^◌, ◌<◌, ◌≤◌, Bool, true, false, cond, not, ◌&&◌, List, [], ◌∷◌, ◌++◌, length, map, get_or, Option, Some, None, refl, sym, ap, ◌∙◌, subst, arith, ◌⊎◌, inl, inr}
 use Rattle.std.specs.Prelude.{All, find, nat_eq}
-use Rattle.std.proofs.lemmas.Bool.{ne_eqb}
 use Rattle.ssa_form.specs.declared.form.TheConstants.{REGISTERS}
 use Rattle.ssa_form.specs.declared.form.Val.{Val}
 use Rattle.ssa_form.specs.declared.form.Val.TheVariants as val
 use Rattle.par_moves.specs.declared.locations.Place.{Place}
-use Rattle.par_moves.specs.declared.locations.Place.TheVariants.{Reg, Slot}
 use Rattle.par_moves.specs.declared.locations.MoveSource.TheVariants.{Place as Held}
 use Rattle.par_moves.specs.declared.locations.PlaceMove.{PlaceMove}
 use Rattle.par_moves.specs.Locations.{same_place, spare, is_from, InRange, IsFit}
 use Rattle.par_moves.specs.Homes.{home_of}
 use Rattle.par_moves.specs.Moves.{is_ready, others, redirect, turn_of, sequenced, AreApart}
+use Rattle.reg_place.specs.Laws.{HomesLie}
 use Rattle.emit_ops.specs.Templates.{held_by}
 use Rattle.emit_ops.specs.Sequences.{keeps_itself, move_of, live_moves}
 
@@ -105,16 +104,16 @@ sequenced_length (suc n) (m ∷ ms) = turned (find (is_ready (m ∷ ms)) (m ∷ 
 
 -- ---- the moves of a live set
 
-module _ (place : ℕ → Place) (live : ℕ → Bool) where
+module _ (homes : HomesLie) (place : ℕ → Place) (live : ℕ → Bool) where
   abbrev moved : ℕ → List Val → List PlaceMove
   moved v outs = live_moves home_of place live v outs
 
-  -- their destinations are slots from v on, below v and the number of outs
+  -- their destinations are homes from v on, below v and the number of outs
   record IsHome (v n : ℕ) (m : PlaceMove) : Type 0 where
     pub w : ℕ
     pub from : v ≤ w
     pub below : w < v + n
-    pub is : m.to ≡ Slot w
+    pub is : m.to ≡ home_of w
 
   homes_in : (v : ℕ) (outs : List Val) (m : PlaceMove) → In (moved v outs) m → IsHome v (length outs) m
   homes_in v [] m i = absurd i
@@ -134,41 +133,43 @@ module _ (place : ℕ → Place) (live : ℕ → Bool) where
   apart_cons m ms h t (suc i) zero d e lt l = absurd (omega arith)
   apart_cons m ms h t (suc i) (suc j) d e lt l = t i j d e (omega arith) (omega arith)
 
-  differs : (v w : ℕ) → v < w → nat_eq v w ≡ false
-  differs v w l = ne_eqb v w (λ e. omega arith)
-
-  live_apart : (v : ℕ) (outs : List Val) → AreApart (moved v outs)
-  live_apart v [] = λ i j d e lt m. absurd (omega arith)
-  live_apart v (out ∷ outs) = either (live v && not (keeps_itself v out)) (live_apart (suc v) outs)
+  live_apart : (v : ℕ) (outs : List Val) → v + length outs ≤ REGISTERS → AreApart (moved v outs)
+  live_apart v [] n = λ i j d e lt m. absurd (omega arith)
+  live_apart v (out ∷ outs) n = either (live v && not (keeps_itself v out)) (live_apart (suc v) outs (omega arith))
     where
       other : (x : PlaceMove) → In (moved (suc v) outs) x → same_place (home_of v) x.to ≡ false
-      other x i = let h = homes_in (suc v) outs x i in let f = h.from in subst (λ (p : Place). same_place (Slot v) p ≡ false) (sym h.is) (differs v h.w (omega arith))
+      other x i =
+          let h = homes_in (suc v) outs x i in
+          let f = h.from in
+          let b = h.below in
+          subst (λ (p : Place). same_place (home_of v) p ≡ false) (sym h.is) (homes.apart v h.w (omega arith) (omega arith) (λ e. omega (arith, e)))
 
       either : (b : Bool) → AreApart (moved (suc v) outs) → AreApart (cond b (move_of home_of place v out ∷ moved (suc v) outs) (moved (suc v) outs))
       either true h = apart_cons (move_of home_of place v out) (moved (suc v) outs) other h
       either false h = h
 
-  pub apart : (outs : List Val) → AreApart (moved 0 outs)
-  apart outs = live_apart 0 outs
+  pub apart : (outs : List Val) → length outs ≡ REGISTERS → AreApart (moved 0 outs)
+  apart outs n = live_apart 0 outs (omega (arith, n))
 
   pub no_spare : (outs : List Val) → length outs ≡ REGISTERS → All (λ m. same_place m.to spare ≡ false) (moved 0 outs)
   no_spare outs n k d l =
       let h = homes_in 0 outs (get_or (moved 0 outs) k d) (at_index (moved 0 outs) k d l) in
       let b = h.below in
-      subst (λ (p : Place). same_place p spare ≡ false) (sym h.is) (differs h.w 16 (omega (arith, b, n)))
+      subst (λ (p : Place). same_place p spare ≡ false) (sym h.is) (homes.slots h.w 16 (omega (arith, b, n)) (omega arith))
 
   pub live_fit : (v : ℕ) (outs : List Val) → v + length outs ≤ REGISTERS → ((k : ℕ) → k < length outs → IsFit (held_by home_of place (get_or outs k (val.Num 0)))) → AllFit (moved v outs)
   live_fit v [] n h = tt
   live_fit v (out ∷ outs) n h = either (live v && not (keeps_itself v out)) (live_fit (suc v) outs (omega arith) (λ k l. h (suc k) (omega arith)))
     where
       either : (b : Bool) → AllFit (moved (suc v) outs) → AllFit (cond b (move_of home_of place v out ∷ moved (suc v) outs) (moved (suc v) outs))
-      either true t = ((omega arith, h 0 (omega arith)), t)
+      either true t = ((homes.fit v (omega arith), h 0 (omega arith)), t)
       either false t = t
 
-  pub live_length : (v : ℕ) (outs : List Val) → length (moved v outs) ≤ length outs
+module _ (place : ℕ → Place) (live : ℕ → Bool) where
+  pub live_length : (v : ℕ) (outs : List Val) → length (live_moves home_of place live v outs) ≤ length outs
   live_length v [] = omega arith
   live_length v (out ∷ outs) = either (live v && not (keeps_itself v out)) (live_length (suc v) outs)
     where
-      either : (b : Bool) → length (moved (suc v) outs) ≤ length outs → length (cond b (move_of home_of place v out ∷ moved (suc v) outs) (moved (suc v) outs)) ≤ suc (length outs)
+      either : (b : Bool) → length (live_moves home_of place live (suc v) outs) ≤ length outs → length (cond b (move_of home_of place v out ∷ live_moves home_of place live (suc v) outs) (live_moves home_of place live (suc v) outs)) ≤ suc (length outs)
       either true t = omega arith
       either false t = omega arith

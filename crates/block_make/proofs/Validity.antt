@@ -34,6 +34,7 @@ use Rattle.ia_encode.specs.declared.item.Item.{Item}
 use Rattle.ia_encode.specs.declared.item.Item.TheVariants.{Inst as Put, Byte, Jump, Label}
 use Rattle.ia_encode.specs.Items.{Lacks, AreDistinct, AreValid}
 use Rattle.fall_stubs.specs.Exchange.{capture_code, spill_code, restore_rest, restore_items, opening_items, closing_items, island_items}
+use Rattle.reg_place.specs.Laws.{HomesLie}
 use Rattle.block_make.proofs.Sequence.{AllFit}
 
 abbrev pub AllValid : List Inst → Type 0
@@ -94,23 +95,24 @@ store_valid B8 x y f g = (eax_into x f, (ecx_into y g, (refl, tt)))
 store_valid B16 x y f g = (eax_into x f, (ecx_into y g, (refl, tt)))
 store_valid B32 x y f g = (eax_into x f, (ecx_into y g, (refl, tt)))
 
-place_fits : (i : ℕ) (o : Option (Option Place)) → IsPlace o → InRange (place_or i o)
-place_fits i None h = absurd h
-place_fits i (Some None) h = absurd h
-place_fits i (Some (Some p)) h = h.0
+place_fits : (o : Option (Option Place)) → IsPlace o → InRange (place_or o)
+place_fits None h = absurd h
+place_fits (Some None) h = absurd h
+place_fits (Some (Some p)) h = h.0
 
-pub fits : (places : List (Option Place)) (v : Val) → IsHeld places v → IsFit (held_by home_of (place_at places) v)
-fits places (val.Param v) h = omega arith
-fits places (val.Line j) h = place_fits j (slice_get places j) h
-fits places (val.Num n) h = h
+module _ (homes : HomesLie) where
+  fits : (places : List (Option Place)) (v : Val) → IsHeld places v → IsFit (held_by home_of (place_at places) v)
+  fits places (val.Param v) h = homes.fit v h
+  fits places (val.Line j) h = place_fits (slice_get places j) h
+  fits places (val.Num n) h = h
 
-line_valid : (places : List (Option Place)) (i : ℕ) (l : Line) → AreHeld places i l → AllValid (line_code home_of (place_at places) i l)
-line_valid places i (Bin op x y) h = bin_valid op (held_by home_of (place_at places) x) (held_by home_of (place_at places) y) (place_at places i) (fits places x h.0) (fits places y h.1) (place_fits i (slice_get places i) h.2)
-line_valid places i (One op x) h = one_valid op (held_by home_of (place_at places) x) (place_at places i) (fits places x h.0) (place_fits i (slice_get places i) h.1)
-line_valid places i (Select c x y) h = (eax_into (held_by home_of (place_at places) c) (fits places c h.0), (refl, (eax_into (held_by home_of (place_at places) y) (fits places y h.2), (ecx_into (held_by home_of (place_at places) x) (fits places x h.1), (refl, (keeps (place_at places i) (place_fits i (slice_get places i) h.3), tt))))))
-line_valid places i (Load w at) h = load_valid w (held_by home_of (place_at places) at) (place_at places i) (fits places at h.0) (place_fits i (slice_get places i) h.1)
-line_valid places i (Store w at x) h = store_valid w (held_by home_of (place_at places) at) (held_by home_of (place_at places) x) (fits places at h.0) (fits places x h.1)
-line_valid places i Gone h = tt
+  line_valid : (places : List (Option Place)) (i : ℕ) (l : Line) → AreHeld places i l → AllValid (line_code home_of (place_at places) i l)
+  line_valid places i (Bin op x y) h = bin_valid op (held_by home_of (place_at places) x) (held_by home_of (place_at places) y) (place_at places i) (fits places x h.0) (fits places y h.1) (place_fits (slice_get places i) h.2)
+  line_valid places i (One op x) h = one_valid op (held_by home_of (place_at places) x) (place_at places i) (fits places x h.0) (place_fits (slice_get places i) h.1)
+  line_valid places i (Select c x y) h = (eax_into (held_by home_of (place_at places) c) (fits places c h.0), (refl, (eax_into (held_by home_of (place_at places) y) (fits places y h.2), (ecx_into (held_by home_of (place_at places) x) (fits places x h.1), (refl, (keeps (place_at places i) (place_fits (slice_get places i) h.3), tt))))))
+  line_valid places i (Load w at) h = load_valid w (held_by home_of (place_at places) at) (place_at places i) (fits places at h.0) (place_fits (slice_get places i) h.1)
+  line_valid places i (Store w at x) h = store_valid w (held_by home_of (place_at places) at) (held_by home_of (place_at places) x) (fits places at h.0) (fits places x h.1)
+  line_valid places i Gone h = tt
 
 move_is_valid : (p : Place) (x : Source) → InRange p → IsFit x → AllValid (move_code p x)
 move_is_valid (Reg r) x h f = (into r x h f, tt)
@@ -128,18 +130,18 @@ pub moves_valid : (ms : List PlaceMove) → AllFit ms → AllValid (moves_code m
 moves_valid [] h = tt
 moves_valid (m ∷ ms) h = all_append (move_code m.to m.from) (moves_code ms) (move_is_valid m.to m.from h.0.0 h.0.1) (moves_valid ms h.1)
 
--- what is held of numbered lines
-abbrev pub RowsHeld : List (Option Place) → List (ℕ × Line) → Type 0
-RowsHeld places [] = Unit {0}
-RowsHeld places (p ∷ ps) = AreHeld places p.0 p.1 × RowsHeld places ps
+-- what is held of the lines of a set
+abbrev pub RowsHeld : List (Option Place) → (ℕ → Bool) → List (ℕ × Line) → Type 0
+RowsHeld places keep [] = Unit {0}
+RowsHeld places keep (p ∷ ps) = (keep p.0 ≡ true → AreHeld places p.0 p.1) × RowsHeld places keep ps
 
-pub lines_valid : (places : List (Option Place)) (keep : ℕ → Bool) (ps : List (ℕ × Line)) → RowsHeld places ps → AllValid (lines_code home_of (place_at places) (kept keep ps))
-lines_valid places keep [] h = tt
-lines_valid places keep (p ∷ ps) h = either (keep p.0) (lines_valid places keep ps h.1)
+pub lines_valid : HomesLie → (places : List (Option Place)) (keep : ℕ → Bool) (ps : List (ℕ × Line)) → RowsHeld places keep ps → AllValid (lines_code home_of (place_at places) (kept keep ps))
+lines_valid homes places keep [] h = tt
+lines_valid homes places keep (p ∷ ps) h = either (keep p.0) refl (lines_valid homes places keep ps h.1)
   where
-    either : (b : Bool) → AllValid (lines_code home_of (place_at places) (kept keep ps)) → AllValid (lines_code home_of (place_at places) (Rattle.std.specs.Prelude.if◌then◌else◌ b (p ∷ kept keep ps) (kept keep ps)))
-    either true t = all_append (line_code home_of (place_at places) p.0 p.1) (lines_code home_of (place_at places) (kept keep ps)) (line_valid places p.0 p.1 h.0) t
-    either false t = t
+    either : (b : Bool) → keep p.0 ≡ b → AllValid (lines_code home_of (place_at places) (kept keep ps)) → AllValid (lines_code home_of (place_at places) (Rattle.std.specs.Prelude.if◌then◌else◌ b (p ∷ kept keep ps) (kept keep ps)))
+    either true e t = all_append (line_code home_of (place_at places) p.0 p.1) (lines_code home_of (place_at places) (kept keep ps)) (line_valid homes places p.0 p.1 (h.0 e)) t
+    either false e t = t
 
 -- ---- items
 
@@ -159,13 +161,13 @@ valid_append (Jump cond d ∷ is) js v w = (v.0, valid_append is js v.1 w)
 valid_append (Label l ∷ is) js v w = valid_append is js v w
 
 capture_valid : AllValid (capture_code register_homes)
-capture_valid = (refl, (refl, (refl, (refl, (refl, (refl, (refl, (refl, (refl, (refl, (refl, (refl, (refl, tt)))))))))))))
+capture_valid = (refl, (refl, (refl, (refl, (refl, (refl, (refl, (refl, (refl, (refl, (refl, (refl, (refl, (refl, (refl, (refl, tt))))))))))))))))
 
 rest_valid : AllValid restore_rest
 rest_valid = (refl, (refl, (refl, (refl, (refl, (refl, (refl, (refl, (refl, (refl, (refl, (refl, (refl, (refl, (refl, (refl, (refl, (refl, (refl, (refl, (refl, (refl, (refl, tt)))))))))))))))))))))))
 
 pub opening_valid : (label : ℕ) → AreValid (opening_items register_homes label)
-opening_valid label = (refl, (refl, (refl, (omega arith, (refl, puts_valid restore_rest rest_valid)))))
+opening_valid label = (refl, (refl, (refl, (refl, (refl, (refl, (omega arith, (refl, puts_valid restore_rest rest_valid))))))))
 
 pub island_valid : (bytes : List ℕ) (label : ℕ) (next : Dest) → AreValid (island_items register_homes bytes label next)
 island_valid bytes label next =
@@ -219,7 +221,7 @@ distinct_append is js l h e free = go is h.distinct (λ k. h.others k)
     go (Label m ∷ xs) d o = (lack_append m xs js d.0 (either m (nat_eq l m) refl (λ n. (o m n).0)), go xs d.1 (λ k n. (o k n).1))
 
 pub opening_one : (label : ℕ) → HasOne label (opening_items register_homes label)
-opening_one label = record { distinct = (lack_puts label restore_rest, tt); others = λ k n. (refl, (refl, (refl, (refl, (refl, (n, lack_puts k restore_rest)))))) }
+opening_one label = record { distinct = (lack_puts label restore_rest, tt); others = λ k n. (refl, (refl, (refl, (refl, (refl, (refl, (refl, (refl, (n, lack_puts k restore_rest))))))))) }
 
 pub island_distinct : (bytes : List ℕ) (label : ℕ) (next : Dest) → AreDistinct (island_items register_homes bytes label next)
 island_distinct bytes label next =

@@ -6,3 +6,4 @@ pub mod FragmentCode
 pub mod Prepared
 pub mod Labels
 pub mod Laws
+pub mod CodesShort

@@ -1,17 +1,21 @@
-//! Choices of a block: the block as it becomes code, and the two parts of its lines.
+//! The block of a start as it becomes code.
 ghost use Rattle.std.specs.Prelude.{◌≡◌, ◌≤◌, IsTrue, IfOk, length};
 ghost use Rattle.elf_read.specs.Elf.{IsGuest, is_exec};
 ghost use Rattle.ssa_form.specs.Checked.{checked};
 ghost use Rattle.ssa_form.specs.Same.{IsWord, SpellsWords};
-ghost use Rattle.block_make.specs.Choices.{body_of, ready, sunk_of};
+ghost use Rattle.block_make.specs.Choices.{ready};
 ghost use Rattle.block_make.specs.Prepared.{SpellsFew};
 
 use elf_read::Exe;
 use lift_flow::lift_block;
-use ssa_form::{Block, BlockKey, Exit, Marks, Val};
+use pass_const::rules_hold;
+use pass_copy::{fold, fold_keeps};
+use pass_dead::{prune, prune_keeps};
+use ssa_form::{Block, Exit, Val};
 use std::alloc::{AllocError, Global};
 
-/// The block of a start, an executable address, as it becomes code. An error comes for want of memory.
+/// The block of a start, an executable address, as it becomes code: lifted, folded and pruned. Its work is linear in the lines that are
+/// lifted. An error comes for want of memory.
 pub fn ready(alloc: Global, exe: &Exe, start: u32) -> Result<Block, AllocError>
     requires guest { IsGuest exe.now }
     requires code { IsTrue (is_exec start exe.now.segments) }
@@ -21,7 +25,12 @@ pub fn ready(alloc: Global, exe: &Exe, start: u32) -> Result<Block, AllocError>
     ensures few { IfOk result (λ b. length b.lines ≤ 2048) }
     ensures exit { IfOk result (λ b. SpellsFew b.exit) }
 {
-    let block = lift_block(alloc, exe, start)?;
+    rules_hold();
+    fold_keeps();
+    prune_keeps();
+    let lifted = lift_block(alloc, exe, start)?;
+    let folded = fold(alloc, &lifted)?;
+    let block = prune(alloc, &folded)?;
     note_exit(block.exit);
     Ok(block)
 }
@@ -44,26 +53,4 @@ fn note_exit(exit: Exit)
         Exit::Way(target) => note_word(target),
         Exit::Jump(_) | Exit::Island { .. } => {}
     }
-}
-
-/// The lines that are done before the exit: all. An error comes for want of memory.
-pub fn body_of(alloc: Global, block: &Block, _key: &BlockKey) -> Result<Marks, AllocError>
-    ensures { IfOk result (λ marks. marks ≡ body_of block.now _key.now) }
-{
-    let mut marks = Vec::new(alloc);
-    for _line in 0..block.lines.len() {
-        marks.push(true)?;
-    }
-    Ok(Marks::of(marks))
-}
-
-/// The lines that are done only on the way to the original: none. An error comes for want of memory.
-pub fn sunk_of(alloc: Global, block: &Block, _key: &BlockKey) -> Result<Marks, AllocError>
-    ensures { IfOk result (λ marks. marks ≡ sunk_of block.now _key.now) }
-{
-    let mut marks = Vec::new(alloc);
-    for _line in 0..block.lines.len() {
-        marks.push(false)?;
-    }
-    Ok(Marks::of(marks))
 }

@@ -1,7 +1,6 @@
 //! The code behind a block's lines, by its exit.
 ghost use Rattle.std.specs.Prelude.{◌≡◌, ◌+◌, ◌≤◌, ◌++◌, IsTrue, OnOk, length};
 ghost use Rattle.elf_read.specs.Elf.{IsGuest, is_exec};
-ghost use Rattle.emit_ops.specs.Placed.{IsHeld};
 ghost use Rattle.par_moves.specs.Homes.{register_homes};
 ghost use Rattle.fall_stubs.specs.Exchange.{island_items};
 ghost use Rattle.br_word.specs.declared.types.Width.TheVariants.{B32};
@@ -15,7 +14,7 @@ ghost use Rattle.lift_flow.specs.LiftedBlock.{lift_of};
 ghost use Rattle.block_make.specs.Choices.{choice_of};
 ghost use Rattle.block_make.specs.FragmentItems.{tail_items, regain_items, stub_items, part_items, cond_items, aim_items, compare_items, tails_items, way_stub_items, own_bytes, dest_of, exit_items, items_of};
 ghost use Rattle.block_make.specs.Keys.{live_at, IsKey};
-ghost use Rattle.block_make.specs.Prepared.{choice_in, IsPrepared};
+ghost use Rattle.block_make.specs.Prepared.{choice_in, IsFound, IsPrepared};
 
 use crate::fragment::JUMP_SLOT;
 use crate::lines::emit_lines;
@@ -106,7 +105,7 @@ fn part(
 /// The value of the block to eax.
 fn aim(p: &mut Piece, of: &Prepared, value: Val) -> Result<(), AllocError>
     requires prepared { IsPrepared of.now }
-    requires named { IsHeld of.now.places.items value }
+    requires named { IsFound of.now.places.items value }
     ensures { OnOk result (p.new ≡ p.old ++ aim_items (choice_in of.now) value) }
 {
     emit_move(
@@ -129,7 +128,7 @@ fn either(
     next: u32,
 ) -> Result<(), AllocError>
     requires prepared { IsPrepared of.now }
-    requires named { IsHeld of.now.places.items test }
+    requires named { IsFound of.now.places.items test }
     ensures { OnOk result (p.new ≡ p.old ++ cond_items (choice_in of.now) test
         (part_items (choice_in of.now) 0 next (live_at exits.now next))
         (part_items (choice_in of.now) 1 taken (live_at exits.now taken))) }
@@ -198,7 +197,7 @@ fn tails(
 /// The side exit of an indirect exit.
 fn way_stub(alloc: Global, p: &mut Piece, of: &Prepared, target: Val) -> Result<(), AllocError>
     requires prepared { IsPrepared of.now }
-    requires named { IsHeld of.now.places.items target }
+    requires named { IsFound of.now.places.items target }
     ensures { OnOk result (p.new ≡ p.old ++ way_stub_items (choice_in of.now) target) }
 {
     aim(p, of, target)?;
@@ -225,7 +224,7 @@ fn way(
 ) -> Result<(), AllocError>
     requires prepared { IsPrepared of.now }
     requires few { length exits.now ≤ MAX_EXITS }
-    requires named { IsHeld of.now.places.items target }
+    requires named { IsFound of.now.places.items target }
     ensures { OnOk result (p.new ≡ p.old ++ (aim_items (choice_in of.now) target ++ (compare_items 1 exits.now
         ++ (way_stub_items (choice_in of.now) target ++ tails_items (choice_in of.now) 1 exits.now)))) }
 {

@@ -9,10 +9,13 @@ mod laws;
 mod lines;
 mod moves;
 mod prepared;
+mod short;
 
 pub use assembly::{Assembled, assemble};
+pub use choices::ready;
 pub use fragment::{Fix, Fragment, JUMP_SLOT, MAX_EXITS, make};
-pub use laws::fragments_valid;
+pub use laws::{fragments_valid, ready_keeps, splits_are_closed, splits_are_listed};
+pub use short::codes_short;
 
 #[cfg(test)]
 mod tests;

@@ -1,7 +1,8 @@
 //! The code of a block's lines.
-ghost use Rattle.std.specs.Prelude.{◌≡◌, ◌++◌, OnOk, length};
+ghost use Rattle.std.specs.Prelude.{◌≡◌, ℕ, ◌++◌, true, OnOk, length};
 ghost use Rattle.block_make.specs.FragmentItems.{lines_items};
-ghost use Rattle.block_make.specs.Prepared.{choice_in, IsPrepared};
+ghost use Rattle.reg_place.specs.Places.{is_in};
+ghost use Rattle.block_make.specs.Prepared.{choice_in, is_done, IsPrepared};
 
 use crate::prepared::Prepared;
 use emit_ops::emit_line;
@@ -12,6 +13,7 @@ use std::alloc::AllocError;
 pub fn emit_lines(p: &mut Piece, of: &Prepared, set: &[bool]) -> Result<(), AllocError>
     requires prepared { IsPrepared of.now }
     requires size { length set.now ≡ length of.now.block.lines }
+    requires done { (i : ℕ) → is_in set.now i ≡ true → is_done of.now.split i ≡ true }
     ensures { OnOk result (p.new ≡ p.old ++ lines_items (choice_in of.now) set.now) }
 {
     let places = of.places.as_slice();

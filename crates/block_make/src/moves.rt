@@ -4,11 +4,11 @@ ghost use Rattle.ssa_form.specs.declared.form.TheConstants.{REGISTERS};
 ghost use Rattle.par_moves.specs.Homes.{home_of};
 ghost use Rattle.par_moves.specs.Locations.{InRange, IsFit};
 ghost use Rattle.emit_ops.specs.Templates.{held_by};
-ghost use Rattle.emit_ops.specs.Placed.{place_at, HasPlace, IsHeld};
+ghost use Rattle.emit_ops.specs.Placed.{place_at};
 ghost use Rattle.emit_ops.specs.Sequences.{keeps_itself, live_moves};
 ghost use Rattle.block_make.specs.Choices.{place_in};
 ghost use Rattle.block_make.specs.FragmentItems.{moves_items};
-ghost use Rattle.block_make.specs.Prepared.{choice_in, is_live, IsPrepared};
+ghost use Rattle.block_make.specs.Prepared.{choice_in, is_live, IsFound, IsPrepared};
 
 use crate::prepared::Prepared;
 use emit_ops::emit_move;
@@ -53,21 +53,21 @@ fn is_moved(live: Live, register: u8, out: Val) -> bool
     is_live(live, register) && !keeps_itself(register, out)
 }
 
-/// The place of a line.
+/// The place of a line, and slot 17 where it has none.
 fn place_of(places: &[Option<Place>], index: u32) -> Place
-    requires { HasPlace places.now index }
+    requires { InRange (place_at places.now index) }
     ensures value { result ≡ place_at places.now index }
     ensures fits { InRange result }
 {
     match places.get(index as usize) {
         Some(Some(place)) => *place,
-        _ => unreachable!(),
+        _ => Place::Slot(17),
     }
 }
 
 /// Where a value is held.
 pub fn source(places: &[Option<Place>], value: Val) -> MoveSource
-    requires { IsHeld places.now value }
+    requires { IsFound places.now value }
     ensures value { result ≡ held_by home_of (place_at places.now) value }
     ensures fits { IsFit result }
 {

@@ -4,12 +4,14 @@ ghost use Rattle.elf_read.specs.Elf.{IsGuest, is_exec};
 ghost use Rattle.block_make.specs.Choices.{choice_of};
 ghost use Rattle.block_make.specs.Prepared.{choice_in, IsPrepared};
 
-use crate::choices::{body_of, ready, sunk_of};
+use crate::choices::ready;
+use crate::laws::splits_are_closed;
 use elf_read::Exe;
 use par_moves::Place;
-use reg_place::place;
+use reg_place::{lines_placed, place, places_lie};
 use ssa_form::{Block, BlockKey, Split};
 use std::alloc::{AllocError, Global};
+use stub_sink::split;
 
 /// A block that becomes code.
 #[derive(Drop)]
@@ -29,10 +31,11 @@ pub fn prepare(alloc: Global, exe: &Exe, key: &BlockKey) -> Result<Prepared, All
     ensures choice { IfOk result (λ p. choice_in p ≡ choice_of exe.now key.now) }
     ensures prepared { IfOk result IsPrepared }
 {
+    splits_are_closed();
+    lines_placed();
+    places_lie();
     let block = ready(alloc, exe, key.start)?;
-    let body = body_of(alloc, &block, key)?;
-    let sunk = sunk_of(alloc, &block, key)?;
-    let split = Split { body, sunk };
+    let split = split(alloc, &block, key)?;
     let places = place(alloc, &block, &split)?;
     Ok(Prepared {
         block,

@@ -1,1 +1,2 @@
 pub mod ImageLaw
+pub mod ImageQuick

@@ -44,10 +44,25 @@ fn without_edges_it_jumps_to_the_original(rt: HostRuntime) {
 fn each_block_that_the_entry_leads_to_is_recovered(rt: HostRuntime) -> Result<(), Fail> {
     let list = vec![in rt.alloc(); (0, 0x0804_8054)]?;
     let built = built(&rt, rt.alloc(), &Edges::of_list(list));
-    assert_eq!(rt; (built.blocks, built.code), (5, 697));
+    assert_eq!(rt; (built.blocks, built.code), (5, 795));
     assert_eq!(rt; built.bytes.len(), 8313);
     // the state is taken over first: mov [07000000],eax
     assert!(rt; bytes_from(&built, 4096).starts_with(&[0x89, 0x05, 0, 0, 0, 0x07]));
     assert!(rt; bytes_from(&built, 8192) == HELLO.as_slice());
+    Ok(())
+}
+
+#[test]
+fn lines_that_nothing_needs_are_left_out(rt: HostRuntime) -> Result<(), Fail> {
+    // xor eax,eax; inc eax; xor ebx,ebx; int 0x80
+    let mut bytes = Vec::from_slice(rt.alloc(), &HELLO[..84])?;
+    bytes.extend_from_slice(&[0x31, 0xc0, 0x40, 0x31, 0xdb, 0xcd, 0x80])?;
+    bytes[68] = 0x5b;
+    bytes[72] = 0x5b;
+    let exe = read_elf(rt.alloc(), bytes.as_slice(), Reach::Original).expect(&rt, "accepted");
+    let edges = Edges::of_list(vec![in rt.alloc(); (0, 0x0804_8054)]?);
+    let built = build(rt.alloc(), &exe, &edges).expect(&rt, "built");
+    assert_eq!(rt; (built.blocks, built.code), (2, 420));
+    assert_eq!(rt; built.bytes.len(), 8283);
     Ok(())
 }

@@ -195,6 +195,7 @@ module _ {code : Region} (here : IsCode code) where
   exchange_keeps homes dest hs s a cs h f = record {
     capture = λ to st. capture_leads homes hs s a to cs h f (stands_puts dest code s.eip (capture_code homes) to st);
     restore = λ label to st. restore_leads dest s a label to cs h f st;
+    leaving = λ label to st. opening_leads homes hs dest s a label to cs h f st;
     opening = λ bytes label to next st.
         let p = stands_parts dest code s.eip (opening_items homes label) (map Byte bytes ++ closing_items homes next) to st in
         opening_leads homes hs dest s a label (own_start homes label s.eip) cs h f p.0;

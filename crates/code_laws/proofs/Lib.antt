@@ -14,4 +14,4 @@ pub mod Moves
 pub mod Settle
 pub mod Valid
 pub mod Tests
-pub mod Slots
+pub mod HomesApart

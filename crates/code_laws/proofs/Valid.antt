@@ -1,5 +1,5 @@
 -- Code of lines, moves and sequences is valid.
-use Rattle.std.proofs.Common.{◌≡◌, ℕ, ◌^◌, ◌<◌, true, nat_lt, List, [], ◌∷◌, ◌++◌, map, None, refl, arith}
+use Rattle.std.proofs.Common.{◌≡◌, ℕ, ◌^◌, ◌<◌, true, nat_lt, List, [], ◌∷◌, ◌++◌, map, None, refl, arith, inl, inr}
 use Rattle.std.proofs.lemmas.Bool.{lt-ltb, and_from}
 use Rattle.br_word.specs.declared.types.Width.{Width}
 use Rattle.br_word.specs.declared.types.Width.TheVariants.{B8, B16, B32}
@@ -26,7 +26,7 @@ use Rattle.ia_encode.specs.declared.item.Item.{Item}
 use Rattle.ia_encode.specs.declared.item.Item.TheVariants.{Inst as Put, Byte, Jump, Label}
 use Rattle.ia_encode.specs.Items.{Lacks, AreDistinct, AreValid}
 use Rattle.code_laws.specs.Exchange.{Homes}
-use Rattle.par_moves.specs.Homes.{AreHomes}
+use Rattle.par_moves.specs.Homes.{AreHomes, register_homes}
 use Rattle.fall_stubs.specs.Exchange.{capture_code, spill_code, restore_rest, reg_from_slot, restore_items, opening_items, closing_items, island_items}
 use Rattle.par_moves.specs.declared.locations.MoveSource.TheVariants as places
 use Rattle.ssa_form.specs.declared.form.Val.TheVariants as lines
@@ -185,13 +185,19 @@ island_distinct homes bytes label next =
     (distinct_bytes bytes (closing_items homes next) (puts_distinct (capture_code homes) (Jump None next ∷ []) tt))
     (λ l. lack_append l (map Byte bytes) (closing_items homes next) (lack_bytes l bytes) (lack_append l (map Put (capture_code homes)) (Jump None next ∷ []) (lack_puts l (capture_code homes)) (refl, tt)))
 
+pub are_homes : AreHomes register_homes
+are_homes =
+    (inr (inl refl), omega arith, (refl, (refl, tt)), (refl, (refl, tt)), (inl refl, omega arith, (refl, tt), (refl, tt), (inr (inr refl), omega arith, tt, tt, tt)))
+
 pub code_valid : CodeValid
 code_valid = record {
   line = λ limit home place laid i l li v. line_valid limit home place laid i l li v;
   move = move_is_valid;
   island = island_valid;
   labels = island_distinct;
+  homes = are_homes;
   capture_size = refl;
+  spill_size = refl;
   restore_size = λ label. refl;
   island_size = λ label next. refl;
 }

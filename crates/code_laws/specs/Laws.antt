@@ -45,6 +45,9 @@ pub record ExchangeKeeps (code : Region) (homes : Homes) (dest : Dest → ℕ) (
   -- one step more where DF is set
   pub restore : (label to : ℕ) → Stands dest code s.eip (restore_items label) to →
       Leads (Quiet a.seen) (Comes code to (Restored a)) (27 + a.cell (Slot 13)) s cs
+  -- on the way to the original
+  pub leaving : (label to : ℕ) → Stands dest code s.eip (opening_items homes label) to →
+      Leads (Quiet a.seen) (Comes code to (Opened homes a)) (length homes + (27 + a.cell (Slot 13))) s cs
   -- to the first of a native instruction's own bytes
   pub opening : (bytes : List ℕ) (label to : ℕ) (next : Dest) →
       Stands dest code s.eip (island_items homes bytes label next) to →

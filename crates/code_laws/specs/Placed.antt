@@ -3,8 +3,9 @@ use Rattle.std.specs.Prelude.{◌≡◌, ℕ, ◌+◌, ◌^◌, ◌<◌, ◌≤�
 use Rattle.br_word.specs.Memory.{Region, HoldBytes}
 use Rattle.br_word.specs.State.{State}
 use Rattle.par_moves.specs.declared.locations.Place.{Place}
-use Rattle.par_moves.specs.declared.locations.Place.TheVariants.{Slot}
 use Rattle.par_moves.specs.Locations.{same_place as place_eq, InRange, IsKept}
+use Rattle.par_moves.specs.Homes.{home_of}
+use Rattle.reg_place.specs.Places.{place_of}
 use Rattle.ssa_form.specs.declared.form.Val.{Val}
 use Rattle.ssa_form.specs.declared.form.Val.TheVariants.{Param, Line as Named}
 use Rattle.ssa_form.specs.declared.form.Val.TheVariants as val
@@ -104,19 +105,8 @@ LinesHold code limit home place last = (ps : List (ℕ × Line)) (s : State) (e 
     Safe limit place last ps → Holds limit home place last ps e a → AllAllowed ps e → StandsAt code s.eip (lines_code home place ps) to →
     Leads (Quiet a.seen) (Comes code to (Left limit home place last [] (fold ps e) a)) (length (lines_code home place ps)) s cs
 
--- ---- each parameter and each line in a slot of its own
+-- ---- homes of virtual registers, and places of lines
 
-abbrev pub slot_home : ℕ → Place
-slot_home v = Slot v
-
-abbrev pub slot_place : ℕ → Place
-slot_place i = Slot (17 + i)
-
-abbrev pub AreVals : ℕ → List (ℕ × Line) → Type 0
-AreVals limit [] = Unit {0}
-AreVals limit (p ∷ ps) = (p.0 < limit) × ValsOf limit p.1 × AreVals limit ps
-
--- they serve every block
-pub record SlotsServe : Type 0 where
-  pub laid : Laid 2048 slot_home slot_place
-  pub safe : (last : ℕ → Bool) (ps : List (ℕ × Line)) → AreVals 2048 ps → Safe 2048 slot_place last ps
+-- homes are laid apart from places of lines, whichever each line has
+abbrev pub HomesServe : Type 0
+HomesServe = (limit : ℕ) (place : ℕ → Place) → ((j : ℕ) → j < limit → (k : ℕ) × (k < 2048) × (place j ≡ place_of k)) → Laid limit home_of place

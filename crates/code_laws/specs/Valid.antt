@@ -10,8 +10,8 @@ use Rattle.emit_ops.specs.Templates.{move_code, line_code}
 use Rattle.ia_encode.specs.declared.item.Dest.{Dest}
 use Rattle.ia_encode.specs.Items.{AreDistinct, AreValid, size_of_items}
 use Rattle.code_laws.specs.Exchange.{Homes}
-use Rattle.par_moves.specs.Homes.{AreHomes}
-use Rattle.fall_stubs.specs.Exchange.{capture_items, restore_items, island_items}
+use Rattle.par_moves.specs.Homes.{AreHomes, register_homes}
+use Rattle.fall_stubs.specs.Exchange.{capture_items, spill_items, restore_items, island_items}
 use Rattle.code_laws.specs.Placed.{ValsOf, Laid}
 
 abbrev pub AllValid : List Inst → Type 0
@@ -25,7 +25,9 @@ pub record CodeValid : Type 0 where
   pub island : (homes : Homes) → AreHomes homes → (bytes : List ℕ) (label : ℕ) (next : Dest) →
       AreValid (island_items homes bytes label next)
   pub labels : (homes : Homes) (bytes : List ℕ) (label : ℕ) (next : Dest) → AreDistinct (island_items homes bytes label next)
-  -- without homes in registers
-  pub capture_size : size_of_items (capture_items []) ≡ 83
+  -- with the virtual registers that live in registers
+  pub homes : AreHomes register_homes
+  pub capture_size : size_of_items (capture_items register_homes) ≡ 101
+  pub spill_size : size_of_items (spill_items register_homes) ≡ 18
   pub restore_size : (label : ℕ) → size_of_items (restore_items label) ≡ 118
-  pub island_size : (label : ℕ) (next : Dest) → size_of_items (island_items [] (0xCD ∷ 0x80 ∷ []) label next) ≡ 208
+  pub island_size : (label : ℕ) (next : Dest) → size_of_items (island_items register_homes (0xCD ∷ 0x80 ∷ []) label next) ≡ 244

@@ -7,13 +7,13 @@ ghost use Rattle.br_word.specs.State.{State};
 ghost use Rattle.br_word.specs.Memory.{Region};
 ghost use Rattle.code_laws.specs.Seen.{Cells, IsCode, Sees};
 ghost use Rattle.ia_encode.specs.declared.item.Dest.{Dest};
-ghost use Rattle.par_moves.specs.Homes.{AreHomes};
+ghost use Rattle.par_moves.specs.Homes.{AreHomes, home_of};
 ghost use Rattle.code_laws.specs.Exchange.{Homes, FlagsHeld};
 ghost use Rattle.code_laws.specs.Laws.{ExchangeKeeps, TemplateMeans, OwnFound, IslandKeeps, StartSeen, JumpsLead, TestsMean};
 ghost use Rattle.par_moves.specs.declared.locations.Place.{Place};
 ghost use Rattle.code_laws.specs.Moves.{AreOuts, HomesApart, MayBeGiven, MovesHold, MovesSettle};
 ghost use Rattle.emit_ops.specs.Sequences.{live_moves};
-ghost use Rattle.code_laws.specs.Placed.{Laid, LinesHold, SlotsServe, slot_home};
+ghost use Rattle.code_laws.specs.Placed.{HomesServe, Laid, LinesHold};
 ghost use Rattle.ssa_form.specs.declared.form.Val.{Val};
 ghost use Rattle.code_laws.specs.Valid.{CodeValid};
 
@@ -87,8 +87,10 @@ pub fn tests_mean()
     ensures { (code : Region) (s : State) (a : Cells) (to : ℕ) (cs : List ℕ) → IsCode code → Sees code s a → TestsMean code s a to cs }
 {}
 
-/// A slot for each parameter and each line serves every block, and the moves to another.
-pub fn slots_serve()
-    ensures lines { SlotsServe }
-    ensures moves { HomesApart slot_home }
-{}
+/// The homes of virtual registers serve the lines of every block, each in a place of lines, and the moves to another block.
+pub fn homes_serve()
+    ensures lines { HomesServe }
+    ensures moves { HomesApart home_of }
+{
+    reg_place::places_lie();
+}

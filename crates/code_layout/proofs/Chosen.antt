@@ -102,7 +102,7 @@ module _ (exe : Exe) (es : List Edge) (live : ℕ → ℕ) where
     keys_exits list ss (λ t y h c. f t y (there s t ss h) c),
   )
 
-  starts_of_nodes : (ss : List ℕ) → starts_in (map node ss) ≡ ss
+  pub starts_of_nodes : (ss : List ℕ) → starts_in (map node ss) ≡ ss
   starts_of_nodes [] = refl
   starts_of_nodes (s ∷ ss) = ap (λ l. s ∷ l) (starts_of_nodes ss)
 

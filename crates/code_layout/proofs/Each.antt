@@ -1,5 +1,5 @@
 -- Each key of a graph is one of which a fragment can be made.
-use Rattle.std.proofs.Common.{◌≡◌, ℕ, zero, suc, ◌^◌, ◌<◌, ◌≤◌, ◌==◌, Bool, true, false, List, [], ◌∷◌, length, map, Option, Some, None, Contains, All, refl, sym, subst, arith, lit<}
+use Rattle.std.proofs.Common.{◌≡◌, ℕ, zero, suc, ◌^◌, ◌<◌, ◌≤◌, ◌==◌, Bool, true, false, List, [], ◌∷◌, length, map, Option, Some, None, Contains, All, refl, sym, subst, arith}
 use Rattle.std.specs.Prelude.{option_to_list, if◌then◌else◌, IsTrue}
 use Rattle.std.specs.List.Sorted.{IsStrictlyIncreasing}
 use Rattle.std.proofs.lemmas.Bool.Decides.{nat_tests}
@@ -18,10 +18,12 @@ use Rattle.flow_graph.specs.GraphOf.{OneGraph, graph_of, starts_of}
 use Rattle.flow_graph.proofs.SiteRuns.{filter_ascends, targets_ascend}
 use Rattle.flow_graph.proofs.Ascending.{From, Up, to_up, no_longer}
 use Rattle.lift_flow.specs.LiftedBlock.{lift_of}
+use Rattle.live_flow.specs.Laws.{EachRowIsNarrow, SetsAreSmall}
 use Rattle.block_make.specs.Keys.{live_at, AreDistinct, IsWayOut, IsKey}
 use Rattle.code_layout.specs.Keys.{live_of, key_of, keys_of}
 use Rattle.code_layout.proofs.Chosen.{here, there, next_start, starts}
 use Rattle.code_layout.proofs.Ways.{way_out}
+use Rattle.code_layout.proofs.LiveRows.{live_small}
 
 -- ---- exits
 
@@ -65,16 +67,12 @@ contains_map f [] x (k, l, i) = absurd (omega (arith, l))
 contains_map f (y ∷ xs) x (zero, l, i) = subst (λ y. Contains (f y ∷ map f xs) (f x)) (sym i) (here (f x) (map f xs))
 contains_map f (y ∷ xs) x (suc k, l, i) = there (f y) (f x) (map f xs) (contains_map f xs x (k, omega (arith, l), i))
 
-module _ (one : OneGraph) (block : EachHasOneBlock) (exe : Exe) (edges : List Edge) (guest : IsGuest exe) (up : ascends edges ≡ true) (few : length (graph_of exe edges) ≤ 65536) where
+module _ (narrow : EachRowIsNarrow) (few_bits : SetsAreSmall) (one : OneGraph) (block : EachHasOneBlock) (exe : Exe) (edges : List Edge) (guest : IsGuest exe) (up : ascends edges ≡ true) (few : length (graph_of exe edges) ≤ 65536) where
   abbrev es : List Edge
   es = counting exe edges
 
   abbrev node : ℕ → Node
   node s = record { start = s; known = known_of exe es s }
-
-  small : (y : ℕ) → live_of exe edges y < 2 ^ 14
-  unfolding live_of
-  small y = lit< tt
 
   code : (s : ℕ) → Contains (starts_of exe es) s → IsTrue (is_exec s exe.segments)
   unfolding graph_of
@@ -97,7 +95,7 @@ module _ (one : OneGraph) (block : EachHasOneBlock) (exe : Exe) (edges : List Ed
         distinct = distinct live known (to_up known (known_ascend exe edges s up));
         ways = All-map (λ (e : ℕ × ℕ). IsWayOut s (lift_of exe s).exit e.0) exit known (all_of (λ y. IsWayOut s (lift_of exe s).exit y) known (λ y c. way_out block exe guest edges s y c));
         few = omega (arith, few_known s h, length-map known exit);
-        live = All-map (λ (e : ℕ × ℕ). e.1 < 2 ^ 14) exit known (all_of (λ y. live y < 2 ^ 14) known (λ y c. small y));
+        live = All-map (λ (e : ℕ × ℕ). e.1 < 2 ^ 14) exit known (all_of (λ y. live y < 2 ^ 14) known (λ y c. live_small narrow few_bits exe edges y));
       }
 
   keys : (ss : List ℕ) → ((s : ℕ) → Contains ss s → IsKey exe (key_of (live_of exe edges) (node s))) → All (IsKey exe) (map (key_of (live_of exe edges)) (map node ss))

@@ -9,3 +9,5 @@ pub mod Targets
 pub mod Chosen
 pub mod Ways
 pub mod Each
+pub mod LiveRows
+pub mod ShortCode

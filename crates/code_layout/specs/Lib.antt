@@ -3,3 +3,4 @@ pub mod Linked
 pub mod Image
 pub mod Layout
 pub mod Rows
+pub mod CodeShort

@@ -4,6 +4,7 @@ ghost use Rattle.code_layout.specs.Layout.{LayoutLinks, KeysAreKeys};
 
 use block_cut::one_block;
 use flow_graph::one_graph;
+use live_flow::sets_are_narrow;
 
 /// Where the fragments of keys were added to a layout, filling in the distances gives the code of the keys, and so much was counted.
 /// The call does nothing: its contract is the law.
@@ -22,4 +23,5 @@ pub fn keys_are_keys()
 {
     one_graph();
     one_block();
+    sets_are_narrow();
 }

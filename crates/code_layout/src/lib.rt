@@ -13,6 +13,7 @@ mod live;
 mod parts;
 mod place;
 mod rows;
+mod short;
 
 pub use built::{BuildError, Built};
 pub use emitted::Emitted;
@@ -21,3 +22,4 @@ pub use keys::keys_of;
 pub use laws::{empty_image, keys_are_keys, layout_links};
 pub use layout::Layout;
 pub use place::{CODE_START, MAX_CODE, PRIVATE_SIZE, PRIVATE_START};
+pub use short::code_short;

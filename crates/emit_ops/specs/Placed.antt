@@ -6,17 +6,17 @@ use Rattle.ssa_form.specs.declared.form.Line.{Line}
 use Rattle.ssa_form.specs.declared.form.Line.TheVariants.{Bin, One, Select, Load, Store, Gone}
 use Rattle.ssa_form.specs.declared.form.TheConstants.{REGISTERS}
 use Rattle.par_moves.specs.declared.locations.Place.{Place}
+use Rattle.par_moves.specs.declared.locations.Place.TheVariants.{Slot}
 use Rattle.par_moves.specs.Locations.{InRange, IsKept}
-use Rattle.reg_place.specs.Places.{line_place}
 
--- the place of a line, where it has one, and else a slot that no other line has
-abbrev pub place_or : ℕ → Option (Option Place) → Place
-place_or i None = line_place i
-place_or i (Some None) = line_place i
-place_or i (Some (Some p)) = p
+-- the place of a line; one that has none gives no result, and its code is the same whatever stands for it
+abbrev pub place_or : Option (Option Place) → Place
+place_or None = Slot 17
+place_or (Some None) = Slot 17
+place_or (Some (Some p)) = p
 
 abbrev pub place_at : List (Option Place) → ℕ → Place
-place_at places i = place_or i (slice_get places i)
+place_at places i = place_or (slice_get places i)
 
 -- a place that a line may have: edx, ebx, ebp, esi, edi or a slot
 abbrev pub IsPlace : Option (Option Place) → Type 0

@@ -37,13 +37,13 @@ fn places(alloc: Global) -> Result<Vec<Option<Place>>, AllocError>
     Ok(vec![in alloc; Some(Place::Slot(17)), Some(Place::Reg(7))]?)
 }
 
-/// Whether a line over eax's and ecx's homes and numbers has these bytes, between the load of its operand from slot 0 and the store
+/// Whether a line over edx's and ecx's homes and numbers has these bytes, between the load of its operand from slot 2 and the store
 /// to slot 17.
 fn is_bin(rt: &HostRuntime, op: BinOp, middle: &[u8]) -> Result<bool, Fail> {
     let places = places(rt.alloc())?;
     let line = Line::Bin {
         op,
-        a: Val::Param(0),
+        a: Val::Param(2),
         b: Val::Param(1),
     };
     let mut piece = Piece::new(rt.alloc());
@@ -51,9 +51,9 @@ fn is_bin(rt: &HostRuntime, op: BinOp, middle: &[u8]) -> Result<bool, Fail> {
     is_between(rt, &piece, middle)
 }
 
-/// Whether these bytes stand between a load of eax from slot 0 and its store to slot 17.
+/// Whether these bytes stand between a load of eax from slot 2 and its store to slot 17.
 fn is_between(rt: &HostRuntime, piece: &Piece, middle: &[u8]) -> Result<bool, Fail> {
-    let mut all = vec![in rt.alloc(); 0x8b, 0x05, 0x00, 0x00, 0x00, 0x07]?;
+    let mut all = vec![in rt.alloc(); 0x8b, 0x05, 0x08, 0x00, 0x00, 0x07]?;
     all.extend_from_slice(middle)?;
     all.extend_from_slice(&[0x89, 0x05, 0x44, 0x00, 0x00, 0x07])?;
     Ok(bytes_of(rt, piece)?.as_slice() == all.as_slice())
@@ -131,7 +131,7 @@ fn is_one(rt: &HostRuntime, op: OneOp, middle: &[u8]) -> Result<bool, Fail> {
     let places = places(rt.alloc())?;
     let line = Line::One {
         op,
-        a: Val::Param(0),
+        a: Val::Param(2),
     };
     let mut piece = Piece::new(rt.alloc());
     emit_line(&mut piece, &line, 0, places.as_slice())?;
@@ -153,7 +153,7 @@ fn operators_of_one(rt: HostRuntime) -> Result<(), Fail> {
 fn choices(rt: HostRuntime) -> Result<(), Fail> {
     let places = places(rt.alloc())?;
     let line = Line::Select {
-        c: Val::Param(0),
+        c: Val::Param(2),
         a: Val::Line(1),
         b: Val::Num(5),
     };
@@ -172,7 +172,7 @@ fn is_load(rt: &HostRuntime, w: Width, middle: &[u8]) -> Result<bool, Fail> {
     let places = places(rt.alloc())?;
     let line = Line::Load {
         w,
-        at: Val::Param(0),
+        at: Val::Param(2),
     };
     let mut piece = Piece::new(rt.alloc());
     emit_line(&mut piece, &line, 0, places.as_slice())?;
@@ -184,13 +184,13 @@ fn is_store(rt: &HostRuntime, w: Width, last: &[u8]) -> Result<bool, Fail> {
     let places = places(rt.alloc())?;
     let line = Line::Store {
         w,
-        at: Val::Param(0),
+        at: Val::Param(2),
         a: Val::Line(0),
     };
     let mut piece = Piece::new(rt.alloc());
     emit_line(&mut piece, &line, 1, places.as_slice())?;
-    // mov eax,[0x07000000]; mov ecx,[0x07000044]
-    let mut all = vec![in rt.alloc(); 0x8b, 0x05, 0x00, 0x00, 0x00, 0x07]?;
+    // mov eax,[0x07000008]; mov ecx,[0x07000044]
+    let mut all = vec![in rt.alloc(); 0x8b, 0x05, 0x08, 0x00, 0x00, 0x07]?;
     all.extend_from_slice(&[0x8b, 0x0d, 0x44, 0x00, 0x00, 0x07])?;
     all.extend_from_slice(last)?;
     Ok(bytes_of(rt, &piece)?.as_slice() == all.as_slice())
@@ -206,6 +206,23 @@ fn loads_and_stores(rt: HostRuntime) -> Result<(), Fail> {
     assert!(rt; is_store(&rt, Width::B8, &[0x88, 0x08])?);
     assert!(rt; is_store(&rt, Width::B16, &[0x66, 0x89, 0x08])?);
     assert!(rt; is_store(&rt, Width::B32, &[0x89, 0x08])?);
+    Ok(())
+}
+
+#[test]
+fn operands_in_registers(rt: HostRuntime) -> Result<(), Fail> {
+    let places = places(rt.alloc())?;
+    let line = Line::Bin {
+        op: BinOp::Add,
+        a: Val::Param(0),
+        b: Val::Param(4),
+    };
+    let mut piece = Piece::new(rt.alloc());
+    emit_line(&mut piece, &line, 1, places.as_slice())?;
+    // mov eax,ebx; add eax,ebp; mov edi,eax
+    assert!(rt;
+        bytes_of(&rt, &piece)?.as_slice() == [0x89, 0xd8, 0x01, 0xe8, 0x89, 0xc7].as_slice()
+    );
     Ok(())
 }
 

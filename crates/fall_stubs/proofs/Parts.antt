@@ -1,6 +1,6 @@
 -- A front part of a sequence of parts.
 use Rattle.std.proofs.Common.{◌≡◌, ℕ, zero, suc, ◌+◌, ◌∙◌, ◌++◌, [], ◌∷◌, List, Result, Ok, Err, ap, sym, append_assoc, length, take, refl, arith}
-use Rattle.std.specs.Prelude.{OnErr}
+use Rattle.std.specs.Prelude.{OnErr, OnOk}
 use Rattle.std.proofs.lemmas.List.{take_at}
 use Rattle.ia_encode.specs.declared.item.Item.{Item}
 use Rattle.fall_stubs.specs.Exchange.{Grew}
@@ -14,6 +14,11 @@ anyway (Err e) p = p
 pub follows : {A E P Q : Type 0} (r : Result A E) → OnErr r P → (P → Q) → OnErr r Q
 follows (Ok x) p f = tt
 follows (Err e) p f = f p
+
+-- what follows where it went well
+pub goes_on : {A E P Q : Type 0} (r : Result A E) → OnOk r P → (P → Q) → OnOk r Q
+goes_on (Ok x) p f = f p
+goes_on (Err e) p f = tt
 
 -- two parts are one
 pub both : (old mid new a b : List Item) → mid ≡ old ++ a → new ≡ mid ++ b → new ≡ old ++ (a ++ b)

@@ -27,8 +27,8 @@ fn bytes_of(rt: &HostRuntime, piece: &Piece) -> Result<Vec<u8>, Fail> {
     Ok(bytes)
 }
 
-/// mov of each register to its slot, and setb, setp, sete, sets and seto of slots 8 to 12.
-const CAPTURE: [u8; 83] = [
+/// mov of each register to its slot, setb, setp, sete, sets and seto of slots 8 to 12, and mov of three slots to their homes.
+const CAPTURE: [u8; 101] = [
     0x89, 0x05, 0x00, 0x00, 0x00, 0x07, // mov [0x07000000],eax
     0x89, 0x0d, 0x04, 0x00, 0x00, 0x07, // mov [0x07000004],ecx
     0x89, 0x15, 0x08, 0x00, 0x00, 0x07, // mov [0x07000008],edx
@@ -42,6 +42,15 @@ const CAPTURE: [u8; 83] = [
     0x0f, 0x94, 0x05, 0x28, 0x00, 0x00, 0x07, // sete [0x07000028]
     0x0f, 0x98, 0x05, 0x2c, 0x00, 0x00, 0x07, // sets [0x0700002c]
     0x0f, 0x90, 0x05, 0x30, 0x00, 0x00, 0x07, // seto [0x07000030]
+    0x8b, 0x2d, 0x10, 0x00, 0x00, 0x07, // mov ebp,[0x07000010]
+    0x8b, 0x1d, 0x00, 0x00, 0x00, 0x07, // mov ebx,[0x07000000]
+    0x8b, 0x35, 0x14, 0x00, 0x00, 0x07, // mov esi,[0x07000014]
+];
+
+const SPILL: [u8; 18] = [
+    0x89, 0x2d, 0x10, 0x00, 0x00, 0x07, // mov [0x07000010],ebp
+    0x89, 0x1d, 0x00, 0x00, 0x00, 0x07, // mov [0x07000000],ebx
+    0x89, 0x35, 0x14, 0x00, 0x00, 0x07, // mov [0x07000014],esi
 ];
 
 const RESTORE: [u8; 118] = [
@@ -76,7 +85,7 @@ const RESTORE: [u8; 118] = [
 ];
 
 #[test]
-fn capture_stores_registers_and_flags(rt: HostRuntime) -> Result<(), Fail> {
+fn capture_stores_registers_and_flags_and_loads_the_homes(rt: HostRuntime) -> Result<(), Fail> {
     let mut piece = Piece::new(rt.alloc());
     capture(&mut piece)?;
     assert!(rt; bytes_of(&rt, &piece)?.as_slice() == CAPTURE.as_slice());
@@ -84,10 +93,10 @@ fn capture_stores_registers_and_flags(rt: HostRuntime) -> Result<(), Fail> {
 }
 
 #[test]
-fn spill_has_nothing_to_do(rt: HostRuntime) -> Result<(), Fail> {
+fn spill_stores_the_homes(rt: HostRuntime) -> Result<(), Fail> {
     let mut piece = Piece::new(rt.alloc());
     spill(&mut piece)?;
-    assert!(rt; piece.items().is_empty());
+    assert!(rt; bytes_of(&rt, &piece)?.as_slice() == SPILL.as_slice());
     Ok(())
 }
 
@@ -110,11 +119,12 @@ fn restore_loads_flags_and_registers(rt: HostRuntime) -> Result<(), Fail> {
 fn island_has_its_bytes_between(rt: HostRuntime) -> Result<(), Fail> {
     let mut piece = Piece::new(rt.alloc());
     island(&mut piece, &[0xcd, 0x80], Dest::Original(0x0804_8002), 9)?;
-    let mut bytes = RESTORE.to_vec(rt.alloc())?;
+    let mut bytes = SPILL.to_vec(rt.alloc())?;
+    bytes.extend_from_slice(&RESTORE)?;
     bytes.extend_from_slice(&[0xcd, 0x80])?;
     bytes.extend_from_slice(&CAPTURE)?;
     bytes.extend_from_slice(&[0xe9, 0, 0, 0, 0])?;
-    assert!(rt; bytes.len() == 208);
+    assert!(rt; bytes.len() == 244);
     assert!(rt; bytes_of(&rt, &piece)?.as_slice() == bytes.as_slice());
     let items = piece.items();
     let next = Item::Jump {

@@ -1,29 +1,24 @@
 -- The fragment of each start has what it asks for.
-use Rattle.std.proofs.Common.{◌≡◌, ℕ, true, map, subst, sym, ap, ◌∙◌}
+use Rattle.std.proofs.Common.{◌≡◌, true, map, subst, sym, ap, ◌∙◌}
 use Rattle.std.specs.Prelude.{All}
-use Rattle.elf_read.specs.declared.exe.Exe.{Exe}
 use Rattle.block_cut.specs.CountedEdges.{counting}
 use Rattle.block_cut.specs.Transfers.{is_among}
 use Rattle.flow_graph.specs.GraphOf.{starts_of}
-use Rattle.block_make.specs.Choices.{ready}
 use Rattle.block_make.specs.Keys.{IsKey}
-use Rattle.block_make.specs.Laws.{FragmentsValid, IsLifted}
+use Rattle.block_make.specs.Laws.{FragmentsValid, ReadyKeeps}
 use Rattle.code_layout.specs.Layout.{KeysAreKeys}
 use Rattle.image_laws.specs.Coded.{key_at}
 use Rattle.image_laws.specs.Stands.{CodeStands}
-use Rattle.image_laws.specs.Serves.{HaveBytes, EachIsLifted}
+use Rattle.image_laws.specs.Serves.{EachIsLifted}
 use Rattle.image_laws.specs.Valid.{ItemsValid, CodeIsBytes}
 use Rattle.image_laws.specs.Made.{EachIsMade}
+use Rattle.image_laws.proofs.SameKinds.{ready_lifted}
 use Rattle.image_laws.proofs.Standing.{same_keys, same_starts}
 use Rattle.image_laws.proofs.KnownExits.{exits_small, key_here, code_small, outs_small}
 use Rattle.image_laws.proofs.CodeBytes as bytes
 
-ready_lifted : EachIsLifted → (exe : Exe) (x : ℕ) → HaveBytes exe → IsLifted (ready exe x)
-unfolding ready
-ready_lifted lifted exe x h = let l = lifted exe x h in record { whole = l.whole; words = l.words; few = l.few; exit = l.exit }
-
-pub items_valid : EachIsLifted → FragmentsValid → ItemsValid
-items_valid lifted fragments exe edges x guest h = fragments.valid exe (key_at exe edges x) (ready_lifted lifted exe x h) (exits_small exe guest edges x)
+pub items_valid : EachIsLifted → ReadyKeeps → FragmentsValid → ItemsValid
+items_valid lifted keeps fragments exe edges x guest h = fragments.valid exe (key_at exe edges x) (ready_lifted lifted keeps exe x h) (exits_small exe guest edges x)
 
 pub code_is_bytes : ItemsValid → CodeStands → CodeIsBytes
 code_is_bytes valid stands exe edges guest h = bytes.code_small exe edges h (λ x. valid exe edges x guest h) (stands.entry exe edges).valid

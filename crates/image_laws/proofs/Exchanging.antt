@@ -4,8 +4,7 @@ use Rattle.std.specs.Prelude.{option_to_list, ◌==◌, ◌||◌, ◌≢◌}
 use Rattle.std.specs.Bool.{then_some}
 use Rattle.std.proofs.lemmas.Bool.Decides.{eqb_tells}
 use Rattle.br_word.specs.Memory.{Region, number_of}
-use Rattle.br_word.specs.Words.{bit}
-use Rattle.br_word.specs.State.{State, Flag, CF, PF, ZF, SF, OF, flag_of}
+use Rattle.br_word.specs.State.{State}
 use Rattle.elf_read.specs.declared.exe.Exe.{Exe}
 use Rattle.elf_read.specs.Elf.{IsOriginal, is_exec}
 use Rattle.elf_read.proofs.Accepted.{entry_bound}
@@ -13,7 +12,6 @@ use Rattle.ia_inst.specs.Meaning.{wrap}
 use Rattle.ia_encode.specs.declared.item.Dest.{Dest}
 use Rattle.ia_encode.specs.declared.item.Dest.TheVariants as dests
 use Rattle.ia_encode.specs.declared.item.Item.{Item}
-use Rattle.ia_encode.specs.declared.item.Item.TheVariants as item
 use Rattle.ia_encode.specs.Items.{size_of_items, bytes_of_items, dest_at, goes_to, Stands, ItemsStand}
 use Rattle.run_model.specs.Edges.{Edge}
 use Rattle.run_model.specs.Run.{observed}
@@ -26,14 +24,12 @@ use Rattle.par_moves.specs.declared.locations.Place.{Place}
 use Rattle.par_moves.specs.declared.locations.Place.TheVariants.{Reg, Slot}
 use Rattle.par_moves.specs.Locations.{InRange}
 use Rattle.par_moves.specs.Homes.{register_homes}
-use Rattle.fall_stubs.specs.Exchange.{capture_items, island_items}
-use Rattle.ssa_form.specs.Agree.{number, AreBits}
+use Rattle.fall_stubs.specs.Exchange.{island_items}
+use Rattle.ssa_form.specs.Agree.{AreBits}
 use Rattle.block_make.specs.Keys.{live_at}
 use Rattle.block_make.specs.FragmentItems.{dest_of}
-use Rattle.code_laws.specs.Seen.{Cells, private_region, word, IsCode, Sees, Quiet}
-use Rattle.code_laws.specs.Exchange.{Homes, FlagsHeld, Opened}
-use Rattle.code_laws.specs.Exchange as exchange
-use Rattle.code_laws.specs.Laws.{Comes, ExchangeKeeps, JumpsLead, own_start}
+use Rattle.code_laws.specs.Seen.{Cells, word, IsCode, Sees}
+use Rattle.code_laws.specs.Laws.{JumpsLead, own_start}
 use Rattle.code_laws.specs.Valid.{CodeValid}
 use Rattle.code_layout.specs.declared.place.TheConstants.{CODE_START, MAX_CODE}
 use Rattle.code_layout.specs.Keys.{live_of, keys_of}
@@ -44,12 +40,13 @@ use Rattle.sim_runs.specs.Image.{Capturable}
 use Rattle.sim_runs.specs.Pieces.{IsLinked}
 use Rattle.sim_runs.specs.Recovered.{is_island_end, is_start_of, knows_of, plan_of}
 use Rattle.sim_runs.specs.Promised.{Exchanges}
+use Rattle.piece_laws.specs.Exchange.{HomesMeet, OpensJoined, ClosesJoined, EntersJoined}
 use Rattle.image_laws.specs.Coded.{key_at, entry_of, address_of, coded_of}
 use Rattle.image_laws.specs.Exchanged.{StatesExchanged}
 use Rattle.image_laws.proofs.Places.{JumpLengths, bytes_long}
 use Rattle.image_laws.proofs.Standing.{same_bytes, whole, known, stands, entry_stands}
 use Rattle.image_laws.proofs.NativeCode.{Decodes, is_native, next_of as next_dest, own_of, native_items, native_inside, own_long}
-use Rattle.image_laws.proofs.Leading.{leads_within, leads_map, leads_then, stands_cut}
+use Rattle.image_laws.proofs.Leading.{leads_within}
 
 -- ---- what is seen before a capture
 
@@ -82,10 +79,6 @@ low_word (a ∷ b ∷ []) h = let p = h 0 in let q = h 1 in omega (arith, p, q)
 low_word (a ∷ b ∷ c ∷ []) h = let p = h 0 in let q = h 1 in let r = h 2 in omega (arith, p, q, r)
 low_word (a ∷ b ∷ c ∷ d ∷ l) h = let p = h 0 in let q = h 1 in let r = h 2 in let s = h 3 in omega (arith, p, q, r, s)
 
-bit_small : (b : Bool) → bit b < 2
-bit_small true = omega arith
-bit_small false = omega arith
-
 module _ (plan : Plan) (outer : List Region) (t : State) (c : Capturable plan outer t) where
   abbrev a : Cells
   a = first t c.own outer
@@ -110,40 +103,6 @@ module _ (plan : Plan) (outer : List Region) (t : State) (c : Capturable plan ou
       small : (p : Place) → InRange p → own_cell t c.own p < 2 ^ 32
       small (Reg r) l = c.small r l
       small (Slot k) l = low_word (drop (4 * k) c.own) (low_drop (4 * k) c.own c.ready.bytes)
-
-  held : FlagsHeld a
-  unfolding own_cell
-  held = record {
-    cf = c.ready.flags CF;
-    pf = c.ready.flags PF;
-    zf = c.ready.flags ZF;
-    sf = c.ready.flags SF;
-    of = c.ready.flags OF;
-    df = subst (λ n. n < 2) (sym c.ready.df_word) (bit_small t.cpu.df);
-  }
-
-  -- homes hold the registers and flags of t
-  captured : (home : (v : ℕ) → plan.home v ≡ Slot v) (y : ℕ) (u : State) → Comes plan.code (plan.address y) (exchange.Captured register_homes a) u → Captured plan y outer t u
-  unfolding own_cell
-  captured home y u k = record {
-    cells = k.cells;
-    sees = k.sees;
-    there = k.eip;
-    outer_is = k.holds.besides.outer;
-    regs = λ r l. ap k.cells.cell (home r) ∙ k.holds.registers r l;
-    flags = flags;
-    df = ap k.cells.cell (home 13) ∙ k.holds.others 13 (omega arith) ∙ c.ready.df_word;
-    shows = k.holds.besides.seen;
-    brk_start = k.holds.besides.brk_start;
-    brk = k.holds.besides.brk;
-  }
-    where
-      flags : (f : Flag) → k.cells.cell (plan.home (number f)) ≡ bit (flag_of f t.cpu.flags)
-      flags CF = ap k.cells.cell (home 8) ∙ k.holds.cf
-      flags PF = ap k.cells.cell (home 9) ∙ k.holds.pf
-      flags ZF = ap k.cells.cell (home 10) ∙ k.holds.zf
-      flags SF = ap k.cells.cell (home 11) ∙ k.holds.sf
-      flags OF = ap k.cells.cell (home 12) ∙ k.holds.of
 
 -- ---- where addresses lie
 
@@ -204,15 +163,13 @@ live_there live (z ∷ ys) y h = ⊎_elim
 
 -- ---- the exchange
 
-abbrev pub KeepsExchange : Type 0
-KeepsExchange = (code : Region) (homes : Homes) (dest : Dest → ℕ) → IsCode code → Rattle.par_moves.specs.Homes.AreHomes homes
-    → (s : State) (a : Cells) (cs : List ℕ) → Sees code s a → FlagsHeld a → ExchangeKeeps code homes dest s a cs
-
 pub record Exchanging : Type 0 where
   pub decodes : Decodes
   pub valid : CodeValid
   pub stand : ItemsStand
-  pub keeps : KeepsExchange
+  pub opening : OpensJoined
+  pub closing : ClosesJoined
+  pub entering : EntersJoined
   pub jumps : (code : Region) (dest : Dest → ℕ) → IsCode code → JumpsLead code dest
 
 module _ (laws : Exchanging) (exe : Exe) (original : IsOriginal exe) (edges : List Edge) (room : length (code_of exe edges) ≤ MAX_CODE) where
@@ -222,11 +179,14 @@ module _ (laws : Exchanging) (exe : Exe) (original : IsOriginal exe) (edges : Li
   abbrev plan : Plan
   plan = plan_of exe edges (coded_of exe edges)
 
-  here : IsCode code
-  here = let q = ap length (same_bytes exe edges) in record { below = omega (arith, q, room); runs = refl }
+  meet : HomesMeet register_homes plan
+  meet = let q = ap length (same_bytes exe edges) in record { are = laws.valid.homes; home = λ v l. refl; here = record { below = omega (arith, q, room); runs = refl } }
 
   linked_stand : (at : ℕ) (is : List Item) → IsLinked code (address_of exe edges) at is → Stands (dest_at (address_of exe edges) at is) code at is (at + size_of_items is)
   linked_stand at is k = laws.stand code (goes_to (address_of exe edges)) at is k.front k.behind k.bytes k.place k.valid k.distinct
+
+  address_small : (y : ℕ) → address_of exe edges y < 2 ^ 32
+  address_small y = let bound = low laws.decodes.lengths exe edges y in omega (arith, bound, room)
 
   -- ---- a native instruction
 
@@ -243,62 +203,15 @@ module _ (laws : Exchanging) (exe : Exe) (original : IsOriginal exe) (edges : Li
     native_stands : Stands dest code at items (at + size_of_items items)
     native_stands =
         let e = native_items exe edges x native in
-        let v = laws.valid.island register_homes tt (own_of exe x) 0 (next_dest exe edges x) in
+        let v = laws.valid.island register_homes laws.valid.homes (own_of exe x) 0 (next_dest exe edges x) in
         let d = laws.valid.labels register_homes (own_of exe x) 0 (next_dest exe edges x) in
         let k = stands laws.decodes.lengths exe edges x start (subst Rattle.ia_encode.specs.Items.AreValid (sym e) v) (subst Rattle.ia_encode.specs.Items.AreDistinct (sym e) d) in
         linked_stand at items (subst (IsLinked code (address_of exe edges) at) e k)
 
-    opened : (a : Cells) (u : State) → AreBits (at_home plan a) → Comes code (plan.native x) (Opened register_homes a) u → Opens plan x a u
-    opened a u bits c = record {
-      restored = record {
-        own = c.sees.own;
-        size = c.sees.slots.size;
-        mem = c.sees.regions ∙ ap (λ m. code ∷ private_region c.sees.own ∷ m) c.holds.besides.outer;
-        count = c.sees.regs.count;
-        regs = λ r l. c.sees.regs.each r l ∙ c.holds.registers r l;
-        flags = flags;
-        df = ap bit c.sees.df ∙ c.holds.df;
-        eip = c.eip;
-        shows = c.sees.seen ∙ c.holds.besides.seen;
-        brk_start = c.sees.brk_start ∙ c.holds.besides.brk_start;
-        brk = c.sees.brk ∙ c.holds.besides.brk;
-      };
-      ready = record {
-        size = c.sees.slots.size;
-        bytes = c.sees.slots.bytes;
-        df_word = c.sees.slots.words 13 (omega arith) ∙ c.holds.others 13 (omega arith) ∙ sym c.holds.df ∙ sym (ap bit c.sees.df);
-        flags = held;
-      };
-    }
-      where
-        flags : (f : Flag) → bit (flag_of f u.cpu.flags) ≡ at_home plan a (number f)
-        flags CF = ap (λ g. bit g.cf) c.sees.flags ∙ c.holds.cf
-        flags PF = ap (λ g. bit g.pf) c.sees.flags ∙ c.holds.pf
-        flags ZF = ap (λ g. bit g.zf) c.sees.flags ∙ c.holds.zf
-        flags SF = ap (λ g. bit g.sf) c.sees.flags ∙ c.holds.sf
-        flags OF = ap (λ g. bit g.of) c.sees.flags ∙ c.holds.of
+    opens : (t : State) (a : Cells) (cs : List ℕ) → Sees code t a → t.eip ≡ at → AreBits (at_home plan a) → Leads (Opens plan x a) 31 t cs
+    opens t a cs s e bits = laws.opening register_homes plan dest meet x 0 (at + size_of_items items) (own_of exe x) (next_dest exe edges x) t a cs native_stands refl s e bits
 
-        one : (v : ℕ) → 8 ≤ v → v < 14 → a.cell (Slot v) < 2 → word c.sees.own v < 2
-        one v l m b = subst (λ n. n < 2) (sym (c.sees.slots.words v (omega (arith, m)) ∙ c.holds.others v l)) b
-
-        held : (f : Flag) → word c.sees.own (number f) < 2
-        held CF = one 8 (omega arith) (omega arith) (bits.flags CF)
-        held PF = one 9 (omega arith) (omega arith) (bits.flags PF)
-        held ZF = one 10 (omega arith) (omega arith) (bits.flags ZF)
-        held SF = one 11 (omega arith) (omega arith) (bits.flags SF)
-        held OF = one 12 (omega arith) (omega arith) (bits.flags OF)
-
-    opens : (t : State) (a : Cells) (cs : List ℕ) → Sees code t a → t.eip ≡ at → AreBits (at_home plan a) → Leads (Opens plan x a) 28 t cs
-    opens t a cs s e bits =
-        let f : FlagsHeld a = record { cf = bits.flags CF; pf = bits.flags PF; zf = bits.flags ZF; sf = bits.flags SF; of = bits.flags OF; df = bits.df } in
-        let d = f.df in
-        let stand = subst (λ y. Stands dest code y items (at + size_of_items items)) (sym e) native_stands in
-        let l = (laws.keeps code register_homes dest here tt t a cs s f).opening (own_of exe x) 0 (at + size_of_items items) (next_dest exe edges x) stand in
-        let P = λ (y : ℕ). Comes code (own_start register_homes 0 y) (Opened register_homes a) in
-        leads_within a.seen (P t.eip) (Opens plan x a) (0 + (27 + a.cell (Slot 13))) 28 t cs s.seen (λ u k. k.sees.seen ∙ k.holds.besides.seen)
-        (λ u k. opened a u bits (subst (λ y. P y u) e k)) (omega arith) (omega (arith, d)) l
-
-    closes : (t : State) (outer : List Region) (cs : List ℕ) → knows_of exe edges x (past plan x) ≡ true → Capturable plan outer t → t.eip ≡ wrap (plan.native x + plan.len x) → Leads (Captured plan (past plan x) outer t) 14 t cs
+    closes : (t : State) (outer : List Region) (cs : List ℕ) → knows_of exe edges x (past plan x) ≡ true → Capturable plan outer t → t.eip ≡ wrap (plan.native x + plan.len x) → Leads (Captured plan (past plan x) outer t) 17 t cs
     closes t outer cs k c e =
         let y : past plan x ≡ next_of exe x = known_behind exe edges x (past plan x) native k in
         let k2 : is_among (known_of exe (counting exe edges) x) (next_of exe x) ≡ true = subst (λ z. is_among (known_of exe (counting exe edges) x) z ≡ true) y k in
@@ -308,12 +221,7 @@ module _ (laws : Exchanging) (exe : Exe) (original : IsOriginal exe) (edges : Li
         let inside = native_inside laws.decodes exe edges x start native in
         let long = own_long laws.decodes exe edges x start native in
         let eip : t.eip ≡ own_start register_homes 0 at + length (own_of exe x) = omega (arith, e, inside, long, room) in
-        let bound = low laws.decodes.lengths exe edges (past plan x) in
-        let small : dest (next_dest exe edges x) < 2 ^ 32 = omega (arith, there, bound, room) in
-        let a = first t c.own outer in
-        let l = (laws.keeps code register_homes dest here tt t a cs (sees plan outer t c) (held plan outer t c)).closing (own_of exe x) 0 at (at + size_of_items items) (next_dest exe edges x) native_stands eip small in
-        leads_within (observed t) (Comes code (dest (next_dest exe edges x)) (exchange.Captured register_homes a)) (Captured plan (past plan x) outer t) (14 + 0) 14 t cs refl (λ u k. k.sees.seen ∙ k.holds.besides.seen)
-        (λ u k. captured plan outer t c (λ v. refl) (past plan x) u (subst (λ z. Comes code z (exchange.Captured register_homes a) u) there k)) (omega arith) (omega arith) l
+        laws.closing register_homes plan dest meet 0 at (at + size_of_items items) (past plan x) (own_of exe x) (next_dest exe edges x) t outer cs native_stands there (address_small (past plan x)) c eip
 
   -- ---- the entry
 
@@ -326,64 +234,26 @@ module _ (laws : Exchanging) (exe : Exe) (original : IsOriginal exe) (edges : Li
   entry_there : (b : Bool) → is_start_of exe edges exe.entry ≡ b → Stands (dest_at (address_of exe edges) CODE_START (entry_items exe.entry b)) code CODE_START (entry_items exe.entry b) (CODE_START + size_of_items (entry_items exe.entry b))
   entry_there b h = linked_stand CODE_START (entry_items exe.entry b) (subst (IsLinked code (address_of exe edges) CODE_START) (entry_is b h) (entry_stands laws.valid exe edges))
 
-  jumped : (from to : ℕ) (u : State) (a : Cells) → Comes code from (exchange.Captured register_homes a) u → Comes code to (exchange.Captured register_homes a) (record u { eip = to })
-  jumped from to u a k = record {
-    cells = k.cells;
-    sees = record {
-      own = k.sees.own;
-      regions = k.sees.regions;
-      slots = k.sees.slots;
-      regs = k.sees.regs;
-      small = k.sees.small;
-      flags = k.sees.flags;
-      marks = k.sees.marks;
-      df = k.sees.df;
-      seen = k.sees.seen;
-      brk_start = k.sees.brk_start;
-      brk = k.sees.brk;
-      running = k.sees.running;
-    };
-    eip = refl;
-    holds = k.holds;
-  }
-
-  enters : (t : State) (outer : List Region) (cs : List ℕ) → is_start_of exe edges exe.entry ≡ true → Capturable plan outer t → t.eip ≡ CODE_START → Leads (Captured plan exe.entry outer t) 14 t cs
+  enters : (t : State) (outer : List Region) (cs : List ℕ) → is_start_of exe edges exe.entry ≡ true → Capturable plan outer t → t.eip ≡ CODE_START → Leads (Captured plan exe.entry outer t) 17 t cs
   enters t outer cs h c e =
       let is = entry_items exe.entry true in
-      let capture = capture_items register_homes in
       let dest = dest_at (address_of exe edges) CODE_START is in
-      let cut = stands_cut dest code capture (item.Jump None (dests.Block exe.entry) ∷ []) CODE_START (CODE_START + size_of_items is) (entry_there true h) in
-      let a = first t c.own outer in
-      let to = CODE_START + size_of_items capture in
-      let s = sees plan outer t c in
-      let first_part = (laws.keeps code register_homes dest here tt t a cs s (held plan outer t c)).capture to (subst (λ y. Stands dest code y capture to) (sym e) cut.0) in
-      let bound = low laws.decodes.lengths exe edges exe.entry in
-      let P = Comes code to (exchange.Captured register_homes a) in
-      let Q = Comes code (address_of exe edges exe.entry) (exchange.Captured register_homes a) in
-      let all = leads_then (Quiet (observed t)) P Q (13 + 0) 1 t cs first_part (λ u ds k.
-      let v = k.holds.besides.seen in
-      leads_map (Quiet k.cells.seen) (Quiet (observed t)) (λ w. w ≡ record u { eip = address_of exe edges exe.entry }) Q 1 u ds
-      (λ w q. record { shows = q.shows ∙ v; live = q.live; in_code = q.in_code })
-      (λ w q. subst Q (sym q) (jumped to (address_of exe edges exe.entry) u a k))
-      ((laws.jumps code dest here).always u k.cells (dests.Block exe.entry) ds k.sees (omega (arith, bound, room)) (subst (λ y. Rattle.ia_encode.specs.Items.Reads code y (Rattle.ia_encode.specs.Items.jump_inst None (Rattle.ia_encode.specs.Items.distance (y + 5) (dest (dests.Block exe.entry)))) 5) (sym k.eip) cut.1.0))) in
-      leads_within (observed t) Q (Captured plan exe.entry outer t) (13 + 0 + 1) 14 t cs refl (λ u k. k.sees.seen ∙ k.holds.besides.seen)
-      (λ u k. captured plan outer t c (λ v. refl) exe.entry u k) (omega arith) (omega arith) all
+      let to = CODE_START + size_of_items is in
+      laws.entering register_homes plan dest meet to exe.entry (dests.Block exe.entry) t outer cs (subst (λ y. Stands dest code y is to) (sym e) (entry_there true h)) refl (address_small exe.entry) c
 
-  passes : (t : State) (outer : List Region) (cs : List ℕ) → is_start_of exe edges exe.entry ≡ false → Capturable plan outer t → t.eip ≡ CODE_START → Leads (λ u. u ≡ record t { eip = exe.entry }) 14 t cs
+  passes : (t : State) (outer : List Region) (cs : List ℕ) → is_start_of exe edges exe.entry ≡ false → Capturable plan outer t → t.eip ≡ CODE_START → Leads (λ u. u ≡ record t { eip = exe.entry }) 17 t cs
   passes t outer cs h c e =
-      let is = entry_items exe.entry false in
-      let dest = dest_at (address_of exe edges) CODE_START is in
-      let a = first t c.own outer in
+      let dest = dest_at (address_of exe edges) CODE_START (entry_items exe.entry false) in
       let stand = entry_there false h in
-      let l = (laws.jumps code dest here).always t a (dests.Original exe.entry) cs (sees plan outer t c) entry_small (subst (λ y. Rattle.ia_encode.specs.Items.Reads code y (Rattle.ia_encode.specs.Items.jump_inst None (Rattle.ia_encode.specs.Items.distance (y + 5) (dest (dests.Original exe.entry)))) 5) (sym e) stand.0) in
-      leads_within (observed t) (λ u. u ≡ record t { eip = exe.entry }) (λ u. u ≡ record t { eip = exe.entry }) 1 14 t cs refl (λ u k. ap observed k) (λ u k. k) (omega arith) (omega arith) l
+      let l = (laws.jumps code dest meet.here).always t (first t c.own outer) (dests.Original exe.entry) cs (sees plan outer t c) entry_small (subst (λ y. Rattle.ia_encode.specs.Items.Reads code y (Rattle.ia_encode.specs.Items.jump_inst None (Rattle.ia_encode.specs.Items.distance (y + 5) (dest (dests.Original exe.entry)))) 5) (sym e) stand.0) in
+      leads_within (observed t) (λ u. u ≡ record t { eip = exe.entry }) (λ u. u ≡ record t { eip = exe.entry }) 1 17 t cs refl (λ u k. ap observed k) (λ u k. k) (omega arith) (omega arith) l
 
   and_inv : (a b : Bool) → (a && b) ≡ true → (a ≡ true) × (b ≡ true)
   and_inv true true h = (refl, refl)
   and_inv true false h = cc
   and_inv false b h = cc
 
-  pub exchanges : Exchanges exe plan 28 14 14
+  pub exchanges : Exchanges exe plan 31 17 17
   exchanges = record {
     opens = λ x t a cs i s e bits. let q = and_inv (is_start_of exe edges x) (is_island_end (block_of exe x).end) i in opens x q.0 q.1 t a cs s e bits;
     closes = λ x t outer cs i k c e. let q = and_inv (is_start_of exe edges x) (is_island_end (block_of exe x).end) i in closes x q.0 q.1 t outer cs k c e;

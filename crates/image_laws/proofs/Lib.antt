@@ -1,9 +1,11 @@
 mod Places
 mod Standing
 mod LiftedBlocks
+mod SameKinds
 mod Serving
 mod Files
 mod NativeCode
+mod Islands
 mod Laying
 mod Leading
 mod Exchanging
@@ -13,3 +15,4 @@ mod InstBytes
 mod KnownExits
 mod CodeBytes
 mod EachMade
+mod QuickPaths

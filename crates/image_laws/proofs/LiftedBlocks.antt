@@ -158,7 +158,7 @@ module _ (laws : Lifts) (exe : Exe) (bytes : HaveBytes exe) where
   all_few at [] b s = omega arith
   all_few at (p ∷ ps) b s =
       let q = all_few (at + p.size) ps (lifted p.inst p.at p.size b) s.2 in
-      let r = laws.few p.inst p.at p.size b (valid_here at p.inst p.size s.1) in
+      let r = laws.few p.inst p.at p.size b in
       omega (arith, q, r)
 
   all_words : (at : ℕ) (is : List Placed) (b : Block) → StandFrom exe at is → SpellsWords b → SpellsWords (lifted_all is b)

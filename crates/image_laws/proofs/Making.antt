@@ -11,7 +11,10 @@ use Rattle.lift_flow.specs.LiftedBlock.{lift_of}
 use Rattle.code_laws.specs.Seen.{IsCode}
 use Rattle.block_make.specs.Choices.{ready, choice_of}
 use Rattle.block_make.specs.Keys.{has}
+use Rattle.block_make.specs.Laws.{ReadyKeeps}
+use Rattle.code_layout.specs.declared.place.TheConstants.{MAX_CODE}
 use Rattle.code_layout.specs.Keys.{live_of}
+use Rattle.code_layout.specs.Linked.{code_of}
 use Rattle.sim_runs.specs.Recovered.{is_island_end, is_start_of, knows_of}
 use Rattle.sim_runs.specs.Pieces.{is_out, fragment_items, IsLinked}
 use Rattle.piece_laws.specs.Choices.{Suits}
@@ -20,9 +23,10 @@ use Rattle.piece_laws.specs.Pieces.{PiecesDo, pieces_of, set_or_none, IsHome, Li
 use Rattle.piece_laws.specs.Suited.{SuitsHold}
 use Rattle.image_laws.specs.Coded.{key_at, start_items, coded_of, coding_at}
 use Rattle.image_laws.specs.Stands.{CodeStands}
-use Rattle.image_laws.specs.Serves.{CodingsServe, EachIsLifted}
-use Rattle.image_laws.specs.Made.{FragmentsAreMade}
+use Rattle.image_laws.specs.Serves.{HaveBytes, CodingsServe, EachIsLifted}
+use Rattle.image_laws.specs.Made.{FragmentsAreMade, IsMade}
 use Rattle.image_laws.proofs.Places.{JumpLengths}
+use Rattle.image_laws.proofs.SameKinds.{ready_lifted, out_was}
 use Rattle.image_laws.proofs.Standing.{same_bytes}
 use Rattle.image_laws.proofs.Exchanging.{low, live_there}
 
@@ -31,6 +35,7 @@ pub record Makes : Type 0 where
   pub stands : CodeStands
   pub serve : CodingsServe
   pub lifted : EachIsLifted
+  pub keeps : ReadyKeeps
   pub joined : ItemsArePieces
   pub run : PiecesDo
   pub suit : SuitsHold
@@ -47,13 +52,11 @@ label_low (i ∷ is) at l = decide (is_label l i) (label_low is (at + size_of_it
     decide true q = omega arith
     decide false q = omega (arith, q)
 
-suited : SuitsHold → EachIsLifted → (exe : Exe) (edges : List Edge) (x : ℕ) → Rattle.image_laws.specs.Serves.HaveBytes exe → Suits (choice_of exe (key_at exe edges x))
-unfolding ready
-suited suit lifted exe edges x bytes = let h = lifted exe x bytes in suit (choice_of exe (key_at exe edges x)) h.whole h.words
+suited : SuitsHold → EachIsLifted → ReadyKeeps → (exe : Exe) (edges : List Edge) (x : ℕ) → HaveBytes exe → Suits (choice_of exe (key_at exe edges x))
+suited suit lifted keeps exe edges x bytes = let h = ready_lifted lifted keeps exe x bytes in suit (choice_of exe (key_at exe edges x)) h.whole h.words
 
-outs_small : (exe : Exe) (edges : List Edge) (x : ℕ) → ((y : ℕ) → is_out (lift_of exe x).exit y ≡ true → y < 2 ^ 32) → (y : ℕ) → is_out (choice_of exe (key_at exe edges x)).block.exit y ≡ true → y < 2 ^ 32
-unfolding ready
-outs_small exe edges x h = h
+outs_small : ReadyKeeps → (exe : Exe) (edges : List Edge) (x : ℕ) → ((y : ℕ) → is_out (lift_of exe x).exit y ≡ true → y < 2 ^ 32) → (y : ℕ) → is_out (choice_of exe (key_at exe edges x)).block.exit y ≡ true → y < 2 ^ 32
+outs_small keeps exe edges x h y e = h y (out_was (lift_of exe x).exit (ready exe x).exit (keeps.kind exe x) y e)
 
 pub fragments_made : Makes → FragmentsAreMade
 fragments_made laws exe edges bytes room small made =
@@ -62,7 +65,7 @@ fragments_made laws exe edges bytes room small made =
     let home : IsHome c = record { here = is_code; bytes = λ i. subst (λ bs. get_or bs i 0 < 256) (sym (same_bytes exe edges)) (small i); home = λ v. refl } in
     let pieces = λ (x : ℕ). pieces_of (choice_of exe (key_at exe edges x)) (key_at exe edges x).exits in
     let parts : (x : ℕ) → is_start_of exe edges x ≡ true → is_island_end (block_of exe x).end ≡ false → start_items exe edges x ≡ fragment_items exe edges (coding_at exe edges x) (pieces x) x =
-    λ x start plain. laws.joined exe edges (key_at exe edges x) (lift_of exe x) (record { distinct = (made x start plain).exits; known = first_of_each (live_of exe edges) (known_of exe (counting exe edges) x) }) (laws.serve exe edges x bytes plain).kind in
+    λ x start plain. laws.joined exe edges (key_at exe edges x) (lift_of exe x) (record { distinct = (made x start plain).exits; known = first_of_each (live_of exe edges) (known_of exe (counting exe edges) x) }) (laws.serve exe edges x bytes start plain).kind in
     record {
       pieces = pieces;
       linked = λ x start plain. let m = made x start plain in subst (IsLinked c.code c.address (c.address x)) (parts x start plain) (laws.stands.fragment exe edges x start m.valid m.labels);
@@ -77,7 +80,15 @@ fragments_made laws exe edges bytes room small made =
             original = λ y. refl;
             label = λ l. let q = label_low is (c.address x) l in omega (arith, q, size, inside, room);
             known = λ y k. let q = low laws.lengths exe edges y in omega (arith, q, room);
-            out = outs_small exe edges x (made x start plain).outs;
+            out = outs_small laws.keeps exe edges x (made x start plain).outs;
           } in
-          laws.run exe edges c x (choice_of exe (key_at exe edges x)) (key_at exe edges x).exits dest home serves (suited laws.suit laws.lifted exe edges x bytes) sets goes p t a runs;
+          laws.run exe edges c x (choice_of exe (key_at exe edges x)) (key_at exe edges x).exits dest home serves (suited laws.suit laws.lifted laws.keeps exe edges x bytes) sets goes p t a runs;
     }
+
+-- which pieces they are
+pub same_pieces : (laws : Makes) (exe : Exe) (edges : List Edge) (bytes : HaveBytes exe) (room : length (code_of exe edges) ≤ MAX_CODE)
+    (small : (i : ℕ) → get_or (code_of exe edges) i 0 < 256)
+    (made : (x : ℕ) → is_start_of exe edges x ≡ true → is_island_end (block_of exe x).end ≡ false → IsMade exe edges x) (x : ℕ)
+    → (fragments_made laws exe edges bytes room small made).pieces x ≡ pieces_of (choice_of exe (key_at exe edges x)) (key_at exe edges x).exits
+unfolding fragments_made
+same_pieces laws exe edges bytes room small made x = refl

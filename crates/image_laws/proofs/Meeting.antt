@@ -21,11 +21,11 @@ images_meet parts exe edges plain original bytes room few runs =
     let long = parts.hold exe edges in
     record {
       plain = plain;
-      opening = 28;
-      closing = 14;
-      top = 14;
+      opening = 31;
+      closing = 17;
+      top = 17;
       coding = coding_at exe edges;
-      serves = λ x start native. parts.serve exe edges x bytes native;
+      serves = λ x start native. parts.serve exe edges x bytes start native;
       fragment = runs;
       exchange = parts.exchanged exe edges original room;
       laid = parts.laid exe edges original room;

@@ -25,7 +25,10 @@ use Rattle.ssa_form.specs.declared.form.Exit.TheVariants as exits
 use Rattle.lift_flow.specs.LiftedBlock.{blank, lifted_to, lift_of}
 use Rattle.par_moves.specs.Homes.{register_homes}
 use Rattle.fall_stubs.specs.Exchange.{opening_items, capture_items, closing_items, island_items}
-use Rattle.block_make.specs.Choices.{Choice, ready, split_of}
+use Rattle.pass_copy.specs.Folded.{folded}
+use Rattle.pass_dead.specs.Needed.{pruned}
+use Rattle.stub_sink.specs.Splits.{split_of}
+use Rattle.block_make.specs.Choices.{Choice, ready}
 use Rattle.block_make.specs.Keys.{live_at}
 use Rattle.block_make.specs.FragmentItems.{lines_items, exit_items, own_bytes, dest_of, items_of}
 use Rattle.code_layout.specs.declared.place.TheConstants.{CODE_START}
@@ -70,7 +73,7 @@ items_by exe key b =
     let c : Choice = record { block = b; split = split_of b key } in
     lines_items c c.split.body ++ exit_items exe key c c.block.exit
 
-native_lifted : (exe : Exe) (x : ℕ) → (block_of exe x).end ≡ Island → lift_of exe x ≡ record (blank x) { exit = exits.Island (size_of (block_of exe x).insts) }
+pub native_lifted : (exe : Exe) (x : ℕ) → (block_of exe x).end ≡ Island → lift_of exe x ≡ record (blank x) { exit = exits.Island (size_of (block_of exe x).insts) }
 unfolding lift_of
 native_lifted exe x e = ap (λ e. lifted_to e (block_of exe x).insts x) e
 
@@ -82,7 +85,7 @@ own_of exe x = own_bytes exe x (size_of (block_of exe x).insts)
 
 pub native_items : (exe : Exe) (edges : List Edge) (x : ℕ) → is_island_end (block_of exe x).end ≡ true → start_items exe edges x ≡ island_items register_homes (own_of exe x) 0 (next_of exe edges x)
 unfolding items_of ready
-native_items exe edges x i = ap (items_by exe (key_at exe edges x)) (native_lifted exe x (is_native (block_of exe x).end i))
+native_items exe edges x i = ap (λ b. items_by exe (key_at exe edges x) (pruned (folded b))) (native_lifted exe x (is_native (block_of exe x).end i))
 
 -- ---- their bytes
 

@@ -152,7 +152,7 @@ distinct_behind (item.Label l ∷ is) js h = distinct_behind is js h.1
 
 module _ (valid : CodeValid) where
   pub closing_valid : (next : Dest) → AreValid (closing_items register_homes next)
-  closing_valid next = valid_behind (opening_items register_homes 0) (closing_items register_homes next) (valid.island register_homes tt [] 0 next)
+  closing_valid next = valid_behind (opening_items register_homes 0) (closing_items register_homes next) (valid.island register_homes valid.homes [] 0 next)
 
   pub closing_distinct : (next : Dest) → AreDistinct (closing_items register_homes next)
   closing_distinct next = distinct_behind (opening_items register_homes 0) (closing_items register_homes next) (valid.labels register_homes [] 0 next)

@@ -9,9 +9,8 @@ use Rattle.block_cut.specs.CountedEdges.{counting}
 use Rattle.flow_graph.specs.Graph.{known_of}
 use Rattle.ssa_form.specs.declared.form.BlockKey.{BlockKey}
 use Rattle.par_moves.specs.Homes.{home_of, register_homes}
-use Rattle.reg_place.specs.Places.{is_in}
 use Rattle.fall_stubs.specs.Exchange.{opening_items}
-use Rattle.block_make.specs.Choices.{Choice, choice_of, place_in}
+use Rattle.block_make.specs.Choices.{choice_of}
 use Rattle.block_make.specs.Keys.{has}
 use Rattle.block_make.specs.FragmentItems.{items_of}
 use Rattle.code_layout.specs.Keys.{live_of, key_of, keys_of}
@@ -19,6 +18,7 @@ use Rattle.code_layout.specs.Linked.{entry_items, first_at, address_in, fragment
 use Rattle.code_layout.specs.Image.{code_segment}
 use Rattle.sim_runs.specs.Coding.{Coding}
 use Rattle.sim_runs.specs.Recovered.{Coded}
+use Rattle.piece_laws.specs.Choices.{coding_of}
 
 -- the key of a start, and the items of its fragment
 abbrev pub key_at : Exe → List Edge → ℕ → BlockKey
@@ -45,10 +45,6 @@ coded_of exe edges = record {
   native = λ x. address_of exe edges x + size_of_items (opening_items register_homes 0);
 }
 
--- what was chosen of a block, as a coding
-abbrev pub coding_of : Choice → Coding
-coding_of c = record { block = c.block; body = is_in c.split.body; sunk = is_in c.split.sunk; place = place_in c }
-
--- that of a start
+-- what was chosen of the block of a start, as a coding
 abbrev pub coding_at : Exe → List Edge → ℕ → Coding
 coding_at exe edges x = coding_of (choice_of exe (key_at exe edges x))

@@ -11,13 +11,13 @@ use Rattle.image_laws.specs.Coded.{coded_of}
 
 -- the steps of the exchange: into a native instruction, out of it, and at the entry
 abbrev pub OPENING_STEPS : ℕ
-OPENING_STEPS = 28
+OPENING_STEPS = 31
 
 abbrev pub CLOSING_STEPS : ℕ
-CLOSING_STEPS = 14
+CLOSING_STEPS = 17
 
 abbrev pub ENTRY_STEPS : ℕ
-ENTRY_STEPS = 14
+ENTRY_STEPS = 17
 
 -- where the code has room, state is exchanged round each native instruction and at the entry
 abbrev pub StatesExchanged : Type 0

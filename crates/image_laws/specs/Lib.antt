@@ -6,3 +6,4 @@ pub mod Exchanged
 pub mod Law
 pub mod Valid
 pub mod Made
+pub mod Quick

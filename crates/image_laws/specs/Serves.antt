@@ -1,5 +1,5 @@
 -- What is lifted and what becomes code of it serve each other.
-use Rattle.std.specs.Prelude.{◌≡◌, ℕ, ◌≤◌, false, List, length, map, IsTrue}
+use Rattle.std.specs.Prelude.{◌≡◌, ℕ, ◌≤◌, true, false, List, length, map, IsTrue}
 use Rattle.br_word.specs.Memory.{HoldBytes}
 use Rattle.elf_read.specs.declared.exe.Exe.{Exe}
 use Rattle.elf_read.specs.Regions.{region_of}
@@ -9,7 +9,7 @@ use Rattle.ssa_form.specs.Checked.{checked}
 use Rattle.ssa_form.specs.Same.{SpellsWords}
 use Rattle.lift_flow.specs.LiftedBlock.{lift_of}
 use Rattle.block_make.specs.Prepared.{SpellsFew}
-use Rattle.sim_runs.specs.Recovered.{is_island_end}
+use Rattle.sim_runs.specs.Recovered.{is_island_end, is_start_of}
 use Rattle.sim_runs.specs.Promised.{ServesAt}
 use Rattle.sim_runs.specs.WholeBlock.{IsWay}
 use Rattle.image_laws.specs.Coded.{coded_of, coding_at}
@@ -30,7 +30,8 @@ pub record IsLifted (exe : Exe) (x : ℕ) : Type 0 where
 abbrev pub EachIsLifted : Type 0
 EachIsLifted = (exe : Exe) (x : ℕ) → HaveBytes exe → IsLifted exe x
 
--- the coding of each block that is not native serves it
+-- the coding of each block of the graph that is not native serves it
 abbrev pub CodingsServe : Type 0
-CodingsServe = (exe : Exe) (edges : List Edge) (x : ℕ) → HaveBytes exe → is_island_end (block_of exe x).end ≡ false
+CodingsServe = (exe : Exe) (edges : List Edge) (x : ℕ) → HaveBytes exe → is_start_of exe edges x ≡ true
+    → is_island_end (block_of exe x).end ≡ false
     → ServesAt exe edges (coded_of exe edges) x (coding_at exe edges x)

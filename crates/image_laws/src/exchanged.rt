@@ -2,9 +2,10 @@
 ghost use Rattle.image_laws.specs.Exchanged.{StatesExchanged};
 
 use block_cut::one_block;
-use code_laws::{code_valid, exchange_keeps, jumps_lead};
+use code_laws::{code_valid, jumps_lead};
 use ia_decode::{encoding_decides, encoding_length};
 use ia_encode::{direct_lengths, items_stand};
+use piece_laws::{captures_joined, opens_joined};
 
 /// Where the recovered code has room, state is exchanged round each native instruction and at the entry.
 pub fn states_exchanged()
@@ -16,6 +17,7 @@ pub fn states_exchanged()
     encoding_length();
     items_stand();
     code_valid();
-    exchange_keeps();
     jumps_lead();
+    opens_joined();
+    captures_joined();
 }

@@ -5,6 +5,7 @@ use block_cut::one_block;
 use elf_write::read_back;
 use ia_decode::{encoding_decides, encoding_length};
 use ia_encode::direct_lengths;
+use live_flow::sets_are_narrow;
 
 /// Where the recovered code has room, the file is read as the code, the private segment and the original's segments, and the own
 /// bytes of each native instruction stand in the code, where the way into it leads.
@@ -16,6 +17,7 @@ pub fn images_laid()
     encoding_decides();
     encoding_length();
     read_back();
+    sets_are_narrow();
 }
 
 /// The file has a header of 52 bytes, and the code.

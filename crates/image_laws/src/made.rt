@@ -4,7 +4,7 @@ ghost use Rattle.image_laws.specs.Made.{EachIsMade, FragmentsAreMade};
 use crate::serves::{codings_serve, lifted_blocks};
 use crate::stands::code_stands;
 use crate::valid::items_valid;
-use block_make::fragments_valid;
+use block_make::{fragments_valid, ready_keeps};
 use code_layout::keys_are_keys;
 use ia_encode::direct_lengths;
 use piece_laws::{items_are_pieces, pieces_do, suits_hold};
@@ -27,6 +27,7 @@ pub fn fragments_made()
     code_stands();
     codings_serve();
     lifted_blocks();
+    ready_keeps();
     items_are_pieces();
     pieces_do();
     suits_hold();

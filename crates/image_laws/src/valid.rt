@@ -3,13 +3,14 @@ ghost use Rattle.image_laws.specs.Valid.{CodeIsBytes, ItemsValid};
 
 use crate::serves::lifted_blocks;
 use crate::stands::code_stands;
-use block_make::fragments_valid;
+use block_make::{fragments_valid, ready_keeps};
 
 /// The items of each start have encodings.
 pub fn items_valid()
     ensures { ItemsValid }
 {
     lifted_blocks();
+    ready_keeps();
     fragments_valid();
 }
 

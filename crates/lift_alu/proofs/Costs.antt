@@ -1,5 +1,5 @@
 -- A row has at most 32 lines.
-use Rattle.std.proofs.Common.{◌≡◌, ℕ, zero, suc, ◌+◌, ◌/◌, ◌%◌, ◌<◌, ◌≤◌, Bool, true, false, cond, Option, Some, None, List, [], ◌∷◌, ◌++◌, length, ◌∙◌, arith, length-append}
+use Rattle.std.proofs.Common.{◌≡◌, ℕ, ◌+◌, ◌/◌, ◌%◌, ◌≤◌, Bool, true, false, cond, Option, Some, None, List, [], ◌∷◌, ◌++◌, length, ◌∙◌, arith, length-append}
 use Rattle.std.specs.Prelude.{◌==◌, nat_lt}
 use Rattle.br_word.specs.declared.types.Width.{Width}
 use Rattle.br_word.specs.declared.types.Width.TheVariants.{B8, B16, B32}
@@ -13,7 +13,6 @@ use Rattle.ia_inst.specs.declared.inst.Src.{Src}
 use Rattle.ia_inst.specs.declared.inst.Src.TheVariants as src
 use Rattle.ia_inst.specs.declared.inst.Count.{Count}
 use Rattle.ia_inst.specs.declared.inst.Count.TheVariants.{Imm, Cl}
-use Rattle.ia_inst.specs.Canonical.{valid_of}
 use Rattle.ia_inst.specs.Meaning.{wrap}
 use Rattle.ssa_form.specs.declared.form.Block.{Block}
 use Rattle.ssa_form.specs.declared.form.Val.{Val}
@@ -23,7 +22,6 @@ use Rattle.lift_alu.specs.Steps.{InCf, Expr, Cur, Got, Lit, Op, Fn, Sel, Step, N
 use Rattle.lift_alu.specs.Operands.{masked, read_reg, write_reg, scaled, plus_disp, address_parts, address_expr, place, read_operand, write_operand, source_place, read_source}
 use Rattle.lift_alu.specs.Table.{a', b', r', s', n', extended, count_expr, even_expr, condition_expr}
 use Rattle.lift_alu.specs.Lifted.{row_alu, row_of, draft_of, lifted}
-use Rattle.lift_alu.proofs.OperandLaws.{and_left, below_of}
 
 abbrev pub cost : Expr → ℕ
 cost (Cur p) = 0
@@ -141,16 +139,24 @@ shift_cost shift.Shl w dst c next = let a = place_cost dst in let b = read_cost 
 shift_cost shift.Shr w dst c next = let a = place_cost dst in let b = read_cost w 0 2 dst in let d = write_cost w 0 dst 4 in let e = count_cost c in omega arith
 shift_cost shift.Sar w dst c next = let a = place_cost dst in let b = read_cost w 0 2 dst in let d = write_cost w 0 dst 4 in let e = count_cost c in let m = masked_cost w (Op Sar s' n') in let x = extended_cost w a' in omega arith
 
-alu_cost : (op : ℕ) (w : Width) (dst : Rm) (x : Src) → op < 8 → costs (row_alu op w dst x) ≤ 32
-alu_cost zero w dst x l = let a = place_cost dst in let b = read_cost w 0 2 dst in let d = write_cost w 0 dst 4 in let e = source_place_cost x in let f = source_cost w 1 3 x in let m = masked_cost w (Op Add a' b') in omega arith
-alu_cost (suc zero) w dst x l = let a = place_cost dst in let b = read_cost w 0 2 dst in let d = write_cost w 0 dst 4 in let e = source_place_cost x in let f = source_cost w 1 3 x in omega arith
-alu_cost (suc (suc zero)) w dst x l = let a = place_cost dst in let b = read_cost w 0 2 dst in let d = write_cost w 0 dst 4 in let e = source_place_cost x in let f = source_cost w 1 3 x in let m = masked_cost w (Op Add a' b') in let k = masked_cost w (Op Add s' (Cur InCf)) in omega arith
-alu_cost (suc (suc (suc zero))) w dst x l = let a = place_cost dst in let b = read_cost w 0 2 dst in let d = write_cost w 0 dst 4 in let e = source_place_cost x in let f = source_cost w 1 3 x in let m = masked_cost w (Op Sub a' b') in let k = masked_cost w (Op Sub s' n') in omega arith
-alu_cost (suc (suc (suc (suc zero)))) w dst x l = let a = place_cost dst in let b = read_cost w 0 2 dst in let d = write_cost w 0 dst 4 in let e = source_place_cost x in let f = source_cost w 1 3 x in omega arith
-alu_cost (suc (suc (suc (suc (suc zero))))) w dst x l = let a = place_cost dst in let b = read_cost w 0 2 dst in let d = write_cost w 0 dst 4 in let e = source_place_cost x in let f = source_cost w 1 3 x in let m = masked_cost w (Op Sub a' b') in omega arith
-alu_cost (suc (suc (suc (suc (suc (suc zero)))))) w dst x l = let a = place_cost dst in let b = read_cost w 0 2 dst in let d = write_cost w 0 dst 4 in let e = source_place_cost x in let f = source_cost w 1 3 x in omega arith
-alu_cost (suc (suc (suc (suc (suc (suc (suc zero))))))) w dst x l = let a = place_cost dst in let b = read_cost w 0 2 dst in let e = source_place_cost x in let f = source_cost w 1 3 x in let m = masked_cost w (Op Sub a' b') in omega arith
-alu_cost (suc (suc (suc (suc (suc (suc (suc (suc op)))))))) w dst x l = absurd (omega arith)
+if_costs : (b : Bool) (xs ys : List Step) → costs xs ≤ 32 → costs ys ≤ 32 → costs (cond b xs ys) ≤ 32
+if_costs true xs ys p q = p
+if_costs false xs ys p q = q
+
+alu_cost : (op : ℕ) (w : Width) (dst : Rm) (x : Src) → costs (row_alu op w dst x) ≤ 32
+alu_cost op w dst x =
+    let a = place_cost dst in let b = read_cost w 0 2 dst in let d = write_cost w 0 dst 4 in
+    let e = source_place_cost x in let f = source_cost w 1 3 x in
+    let sum = masked_cost w (Op Add a' b') in let carried = masked_cost w (Op Add s' (Cur InCf)) in
+    let difference = masked_cost w (Op Sub a' b') in let borrowed = masked_cost w (Op Sub s' n') in
+    if_costs (op == 0) _ _ (omega (arith, a, b, d, e, f, sum))
+    (if_costs (op == 1) _ _ (omega (arith, a, b, d, e, f))
+    (if_costs (op == 2) _ _ (omega (arith, a, b, d, e, f, sum, carried))
+    (if_costs (op == 3) _ _ (omega (arith, a, b, d, e, f, difference, borrowed))
+    (if_costs (op == 4) _ _ (omega (arith, a, b, d, e, f))
+    (if_costs (op == 5) _ _ (omega (arith, a, b, d, e, f, difference))
+    (if_costs (op == 6) _ _ (omega (arith, a, b, d, e, f))
+    (omega (arith, a, b, e, f, difference))))))))
 
 extend_cost : (sign : Bool) (from w : Width) (dst : ℕ) (x : Rm) (next : ℕ) → costs (row_of (Extend sign from w dst x) next) ≤ 32
 extend_cost true from w dst x next = let a = place_cost x in let b = read_cost from 1 3 x in let d = write_reg_cost w dst r' in let m = masked_cost w (extended from b') in let e = extended_cost from b' in omega arith
@@ -160,43 +166,43 @@ imul_cost : (dst : ℕ) (x : Rm) (by : Option ℕ) (next : ℕ) → costs (row_o
 imul_cost dst x None next = let a = place_cost x in let b = read_cost B32 1 3 x in omega arith
 imul_cost dst x (Some n) next = let a = place_cost x in let b = read_cost B32 1 3 x in omega arith
 
-pub row_cost : (i : Inst) (next : ℕ) → valid_of i ≡ true → costs (row_of i next) ≤ 32
-row_cost (Alu op w dst x) next h = alu_cost op w dst x (below_of op 8 (and_left (nat_lt op 8) _ h))
-row_cost (Test w dst x) next h = let a = place_cost dst in let b = read_cost w 0 2 dst in let e = source_place_cost x in let f = source_cost w 1 3 x in omega arith
-row_cost (Mov w dst x) next h = let a = place_cost dst in let d = write_cost w 0 dst 3 in let e = source_place_cost x in let f = source_cost w 1 3 x in omega arith
-row_cost (Lea w dst addr) next h = let a = place_cost (Mem addr) in let m = masked_cost w (address_expr addr) in let d = write_reg_cost w dst r' in omega arith
-row_cost (Xchg w dst reg) next h = let a = place_cost dst in let b = read_cost w 0 2 dst in let d = write_cost w 0 dst 3 in let e = read_reg_cost w reg in let f = write_reg_cost w reg a' in omega arith
-row_cost (Inc w dst) next h = let a = place_cost dst in let b = read_cost w 0 2 dst in let d = write_cost w 0 dst 4 in let m = masked_cost w (Op Add a' b') in omega arith
-row_cost (Dec w dst) next h = let a = place_cost dst in let b = read_cost w 0 2 dst in let d = write_cost w 0 dst 4 in let m = masked_cost w (Op Sub a' b') in omega arith
-row_cost (Not w dst) next h = let a = place_cost dst in let b = read_cost w 0 2 dst in let d = write_cost w 0 dst 4 in omega arith
-row_cost (Neg w dst) next h = let a = place_cost dst in let b = read_cost w 0 3 dst in let d = write_cost w 0 dst 4 in let m = masked_cost w (Op Sub a' b') in omega arith
-row_cost (Push x) next h = let e = source_place_cost x in let f = source_cost B32 1 3 x in omega arith
-row_cost (Pop dst) next h = let a = place_cost dst in let d = write_cost B32 0 dst 2 in omega arith
-row_cost (MulDiv op x) next h = omega arith
-row_cost (Imul dst x by) next h = imul_cost dst x by next
-row_cost (Shift op w dst c) next h = shift_cost op w dst c next
-row_cost (Rotate right dst c) next h = omega arith
-row_cost Cwde next h = omega arith
-row_cost Cdq next h = omega arith
-row_cost (Extend sign from w dst x) next h = extend_cost sign from w dst x next
-row_cost (Setcc c dst) next h = let a = place_cost dst in let d = write_cost B8 0 dst 3 in let e = condition_cost c in omega arith
-row_cost (Cmov c dst x) next h = let a = place_cost x in let b = read_cost B32 1 3 x in let e = condition_cost c in omega arith
-row_cost (Jcc c rel) next h = let e = condition_cost c in omega arith
-row_cost (Jmp rel) next h = omega arith
-row_cost (JmpRm x) next h = let a = place_cost x in let b = read_cost B32 0 9 x in omega arith
-row_cost (Call rel) next h = omega arith
-row_cost (CallRm x) next h = let a = place_cost x in let b = read_cost B32 0 9 x in omega arith
-row_cost (Ret pop) next h = omega arith
-row_cost Leave next h = omega arith
-row_cost (Movs w rep) next h = omega arith
-row_cost (Stos w rep) next h = omega arith
-row_cost Cld next h = omega arith
-row_cost Std next h = omega arith
-row_cost Sahf next h = omega arith
-row_cost Int80 next h = omega arith
-row_cost Nop next h = omega arith
+pub row_cost : (i : Inst) (next : ℕ) → costs (row_of i next) ≤ 32
+row_cost (Alu op w dst x) next = alu_cost op w dst x
+row_cost (Test w dst x) next = let a = place_cost dst in let b = read_cost w 0 2 dst in let e = source_place_cost x in let f = source_cost w 1 3 x in omega arith
+row_cost (Mov w dst x) next = let a = place_cost dst in let d = write_cost w 0 dst 3 in let e = source_place_cost x in let f = source_cost w 1 3 x in omega arith
+row_cost (Lea w dst addr) next = let a = place_cost (Mem addr) in let m = masked_cost w (address_expr addr) in let d = write_reg_cost w dst r' in omega arith
+row_cost (Xchg w dst reg) next = let a = place_cost dst in let b = read_cost w 0 2 dst in let d = write_cost w 0 dst 3 in let e = read_reg_cost w reg in let f = write_reg_cost w reg a' in omega arith
+row_cost (Inc w dst) next = let a = place_cost dst in let b = read_cost w 0 2 dst in let d = write_cost w 0 dst 4 in let m = masked_cost w (Op Add a' b') in omega arith
+row_cost (Dec w dst) next = let a = place_cost dst in let b = read_cost w 0 2 dst in let d = write_cost w 0 dst 4 in let m = masked_cost w (Op Sub a' b') in omega arith
+row_cost (Not w dst) next = let a = place_cost dst in let b = read_cost w 0 2 dst in let d = write_cost w 0 dst 4 in omega arith
+row_cost (Neg w dst) next = let a = place_cost dst in let b = read_cost w 0 3 dst in let d = write_cost w 0 dst 4 in let m = masked_cost w (Op Sub a' b') in omega arith
+row_cost (Push x) next = let e = source_place_cost x in let f = source_cost B32 1 3 x in omega arith
+row_cost (Pop dst) next = let a = place_cost dst in let d = write_cost B32 0 dst 2 in omega arith
+row_cost (MulDiv op x) next = omega arith
+row_cost (Imul dst x by) next = imul_cost dst x by next
+row_cost (Shift op w dst c) next = shift_cost op w dst c next
+row_cost (Rotate right dst c) next = omega arith
+row_cost Cwde next = omega arith
+row_cost Cdq next = omega arith
+row_cost (Extend sign from w dst x) next = extend_cost sign from w dst x next
+row_cost (Setcc c dst) next = let a = place_cost dst in let d = write_cost B8 0 dst 3 in let e = condition_cost c in omega arith
+row_cost (Cmov c dst x) next = let a = place_cost x in let b = read_cost B32 1 3 x in let e = condition_cost c in omega arith
+row_cost (Jcc c rel) next = let e = condition_cost c in omega arith
+row_cost (Jmp rel) next = omega arith
+row_cost (JmpRm x) next = let a = place_cost x in let b = read_cost B32 0 9 x in omega arith
+row_cost (Call rel) next = omega arith
+row_cost (CallRm x) next = let a = place_cost x in let b = read_cost B32 0 9 x in omega arith
+row_cost (Ret pop) next = omega arith
+row_cost Leave next = omega arith
+row_cost (Movs w rep) next = omega arith
+row_cost (Stos w rep) next = omega arith
+row_cost Cld next = omega arith
+row_cost Std next = omega arith
+row_cost Sahf next = omega arith
+row_cost Int80 next = omega arith
+row_cost Nop next = omega arith
 
 -- THE LAW
-pub few_lines : (i : Inst) (at n : ℕ) (b : Block) → valid_of i ≡ true → length (lifted i at n b).lines ≤ length b.lines + 32
+pub few_lines : (i : Inst) (at n : ℕ) (b : Block) → length (lifted i at n b).lines ≤ length b.lines + 32
 unfolding lifted
-few_lines i at n b h = let c = row_cost i (wrap (at + n)) h in let s = steps_count (row_of i (wrap (at + n))) (unnamed (draft_of b)) in omega arith
+few_lines i at n b = let c = row_cost i (wrap (at + n)) in let s = steps_count (row_of i (wrap (at + n))) (unnamed (draft_of b)) in omega arith

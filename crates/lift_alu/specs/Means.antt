@@ -56,10 +56,9 @@ EachMeans = (i : Inst) (at n : ℕ) (b : Block)
 abbrev pub EachStaysChecked : Type 0
 EachStaysChecked = (i : Inst) (at n : ℕ) (b : Block) → checked b ≡ true → checked (lifted i at n b) ≡ true
 
--- a valid instruction has at most 32 lines
+-- an instruction has at most 32 lines
 abbrev pub EachHasFew : Type 0
-EachHasFew = (i : Inst) (at n : ℕ) (b : Block)
-    → IsTrue (valid_of i) → length (lifted i at n b).lines ≤ length b.lines + 32
+EachHasFew = (i : Inst) (at n : ℕ) (b : Block) → length (lifted i at n b).lines ≤ length b.lines + 32
 
 -- the numbers that lines and outs spell out have 32 bits
 abbrev pub EachSpellsWords : Type 0

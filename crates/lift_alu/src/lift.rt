@@ -141,9 +141,8 @@ fn exit_of(row: &Row, inst: &Inst, next: u32) -> Exit
 /// most 2016 lines, and sets the outs and the exit: a transfer's own, or a jump to the next address behind
 /// any other instruction. A native instruction has no lines.
 ///
-/// The lines are those of the table, and a checked block stays checked. A valid instruction has at most 32
-/// lines, and spells out numbers of 32 bits. An error comes where memory is short, and then the block stays
-/// as it is.
+/// The lines are those of the table, and at most 32, and a checked block stays checked. A valid instruction spells
+/// out numbers of 32 bits. An error comes where memory is short, and then the block stays as it is.
 pub fn lift_inst(
     alloc: Global,
     block: &mut Block,
@@ -153,7 +152,7 @@ pub fn lift_inst(
 ) -> Result<(), AllocError>
     requires few { length block.old.lines ≤ 2016 }
     ensures lines { MatchResult result (λ done. block.new ≡ lifted inst.now at len block.old) (λ short. block.new ≡ block.old) }
-    ensures few { IsTrue (valid_of inst.now) → length block.new.lines ≤ length block.old.lines + 32 }
+    ensures few { length block.new.lines ≤ length block.old.lines + 32 }
     ensures whole { checked block.old ≡ true → checked block.new ≡ true }
     ensures words { IsTrue (valid_of inst.now) → SpellsWords block.old → SpellsWords block.new }
 {

@@ -3,6 +3,7 @@
 //! passed on here: a user of lifted blocks names this crate alone.
 #![tactic(auto)]
 
+mod law;
 mod lift;
 
 /// How far blocks go, where their transfers lead, and which edges count.
@@ -10,6 +11,7 @@ pub use block_cut::{
     Cut, End, MAX_INSTRUCTIONS, Spelled, address_behind, counts, cut, following_start,
     instruction_at, leads, one_block, start_behind,
 };
+pub use law::lines_few;
 pub use lift::lift_block;
 pub use ssa_form::Block;
 

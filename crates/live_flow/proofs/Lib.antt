@@ -7,3 +7,4 @@ pub mod Among
 pub mod Linking
 pub mod Growth
 pub mod Examples
+pub mod Narrow

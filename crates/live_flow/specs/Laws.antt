@@ -1,5 +1,6 @@
 -- What live sets and rows are worth.
-use Rattle.std.specs.Prelude.{◌≡◌, ℕ, ◌<◌, ◌↔◌, Bool, true, List, length, get_or}
+use Rattle.std.specs.Prelude.{◌≡◌, ℕ, ◌<◌, ◌≤◌, ◌^◌, ◌↔◌, Bool, true, false, List, length, get_or}
+use Rattle.ssa_form.specs.declared.form.TheConstants.{REGISTERS}
 use Rattle.ssa_form.specs.declared.form.Block.{Block}
 use Rattle.ssa_form.specs.Checked.{checked}
 use Rattle.pass_dead.specs.Names.{has}
@@ -37,3 +38,24 @@ FragmentSplits = (rows : List LiveRow) (b : Block) (i : ℕ) (known : List ℕ) 
     IsSplit (is_live rows i) (λ v. any_live (is_live rows) v (ways rows i)) (has_fallback b.exit known) b
     (body_of (λ v. any_live (is_live rows) v (ways rows i)) (has_fallback b.exit known) b)
     (sunk_of (λ v. any_live (is_live rows) v (ways rows i)) (has_fallback b.exit known) b)
+
+-- ---- only registers are in sets
+
+abbrev pub IsNarrow : ℕ → Type 0
+IsNarrow set = (v : ℕ) → REGISTERS ≤ v → has set v ≡ false
+
+-- rows name only registers
+abbrev pub AreNarrow : List LiveRow → Type 0
+AreNarrow rows = (i : ℕ) → IsNarrow (row_at rows i).uses × IsNarrow (row_at rows i).passes
+
+-- so do the rows of blocks
+abbrev pub EachRowIsNarrow : Type 0
+EachRowIsNarrow = (b : Block) (known : List ℕ) → IsNarrow (row_of b known).uses × IsNarrow (row_of b known).passes
+
+-- then the numbers of their sets are small
+abbrev pub SetsAreSmall : Type 0
+SetsAreSmall = (rows : List LiveRow) (k : ℕ) → AreNarrow rows → get_or (live_in rows) k 0 < 2 ^ REGISTERS
+
+-- and they are closed, as the sets are
+abbrev pub NumbersAreClosed : Type 0
+NumbersAreClosed = (rows : List LiveRow) → AreNarrow rows → AreLive rows (λ i v. has (get_or (live_in rows) i 0) v)

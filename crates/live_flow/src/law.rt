@@ -1,5 +1,5 @@
 //! The laws of live sets. Each is the contract of a call that does nothing but name the laws that it rests on.
-ghost use Rattle.live_flow.specs.Laws.{LiveIsWalked, WalksAreLive, EachIsClosed, NumbersAreSets, LiveFeeds, FragmentSplits};
+ghost use Rattle.live_flow.specs.Laws.{LiveIsWalked, WalksAreLive, EachIsClosed, NumbersAreSets, LiveFeeds, FragmentSplits, EachRowIsNarrow, SetsAreSmall, NumbersAreClosed};
 
 use stub_sink::split_serves;
 
@@ -20,3 +20,10 @@ pub fn fragment_splits()
 {
     split_serves();
 }
+
+/// The row of a block names only virtual registers; the live sets of such rows are numbers below 2^14, and these are closed.
+pub fn sets_are_narrow()
+    ensures rows { EachRowIsNarrow }
+    ensures small { SetsAreSmall }
+    ensures closed { NumbersAreClosed }
+{}

@@ -9,7 +9,8 @@ mod sets;
 #[cfg(test)]
 mod tests;
 
-pub use law::{fragment_splits, live_is_walked};
+pub use law::{fragment_splits, live_is_walked, sets_are_narrow};
+pub use links::place_of;
 pub use row::{LiveRow, Starts, row_of};
 pub use sets::live;
 pub use ssa_form::Block;

@@ -51,8 +51,8 @@ impl Places {
     }
 }
 
-/// The place of the row with this start.
-fn place_of(rows: &[LiveRow], start: u32) -> usize
+/// The place of the row with this start, where one has it, by halving. It takes no memory.
+pub fn place_of(rows: &[LiveRow], start: u32) -> usize
     requires ascending { StartsAscend rows.now }
     requires there { place_of rows.now start < length rows.now }
     ensures { result ≡ place_of rows.now start }

@@ -4,9 +4,9 @@ use Rattle.par_moves.specs.declared.locations.Place.{Place}
 use Rattle.par_moves.specs.declared.locations.Place.TheVariants.{Reg, Slot}
 use Rattle.par_moves.specs.declared.homes.RegisterHome.{RegisterHome}
 
--- those that live in a register today: none
+-- esp lives in ebp, eax in ebx and ebp in esi
 abbrev pub register_homes : List RegisterHome
-register_homes = []
+register_homes = record { register = 5; slot = 4 } ∷ record { register = 3; slot = 0 } ∷ record { register = 6; slot = 5 } ∷ []
 
 -- the home of a virtual register, by such a list
 abbrev pub home_in : List RegisterHome → ℕ → Place

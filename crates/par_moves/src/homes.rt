@@ -11,9 +11,25 @@ pub struct RegisterHome {
     pub slot: u32,
 }
 
-/// All of them, in the order in which they are loaded. Today there are none: each virtual register lives in its slot.
+const HOMES: [RegisterHome; 3] = [
+    RegisterHome {
+        register: 5,
+        slot: 4,
+    },
+    RegisterHome {
+        register: 3,
+        slot: 0,
+    },
+    RegisterHome {
+        register: 6,
+        slot: 5,
+    },
+];
+
+/// All of them, in the order in which they are loaded: esp in ebp, eax in ebx, ebp in esi. Every other virtual register lives in its
+/// slot.
 pub fn register_homes() -> &'static [RegisterHome]
     ensures { result.now ≡ register_homes }
 {
-    &[]
+    &HOMES
 }

@@ -80,5 +80,14 @@ fn slots_are_words_of_the_private_segment(rt: HostRuntime) {
     assert!(rt; source(MoveSource::Place(Place::Slot(16))) == Src::Rm(word));
     assert!(rt; source(MoveSource::Num(5)) == Src::Imm(5));
     assert!(rt; operand(Place::Reg(3)) == Rm::Reg(3));
-    assert!(rt; register_homes().is_empty());
+}
+
+#[test]
+fn homes_in_the_order_of_their_loads(rt: HostRuntime) {
+    // mov ebp,slot 4; mov ebx,slot 0; mov esi,slot 5
+    let homes = register_homes();
+    assert!(rt; homes.len() == 3);
+    let registers = [homes[0].register, homes[1].register, homes[2].register];
+    let slots = [homes[0].slot, homes[1].slot, homes[2].slot];
+    assert!(rt; registers == [5, 3, 6] && slots == [4, 0, 5]);
 }

@@ -10,4 +10,4 @@ mod Whole
 mod Joined
 mod Suited
 mod Capture
-mod Marked
+mod Parted

@@ -17,6 +17,7 @@ use Rattle.ssa_form.specs.declared.form.Block.{Block}
 use Rattle.ssa_form.specs.Same.{rows}
 use Rattle.emit_ops.specs.Sequences.{kept}
 use Rattle.code_laws.specs.Placed.{IsNamed, Names, Used, Laid, Safe}
+use Rattle.reg_place.specs.Laws.{HomesLie}
 use Rattle.reg_place.specs.Places.{is_in}
 use Rattle.block_make.specs.Choices.{Choice, place_in}
 use Rattle.sim_runs.specs.Lines.{NamedIn, LineIn, Closed, either, IsSunk, AllSunk}
@@ -86,7 +87,7 @@ pub record Ready (choice : Choice) (exits : Exits) : Type 0 where
   pub sunk_before : exits.unknown ≡ true → (j : ℕ) → Used after (sunk_of choice) j → (is_in choice.split.body j ≡ true) × NamedLater choice.block j (sunk_of choice)
   pub after_out : (j : ℕ) → EndNames choice.block j → (j < length choice.block.lines) × (after j ≡ true)
 
-module _ (home : ℕ → Place) (homes : (v : ℕ) → home v ≡ home_of v) (on : ℕ → Bool) (b : Block) (exits : Exits) (choice : Choice) (serves : Serves home on b exits (coding_of choice)) (suits : Suits choice) where
+module _ (lie : HomesLie) (home : ℕ → Place) (homes : (v : ℕ) → home v ≡ home_of v) (on : ℕ → Bool) (b : Block) (exits : Exits) (choice : Choice) (serves : Serves home on b exits (coding_of choice)) (suits : Suits choice) where
   abbrev k : Coding
   k = coding_of choice
 
@@ -112,8 +113,8 @@ module _ (home : ℕ → Place) (homes : (v : ℕ) → home v ≡ home_of v) (on
 
   pub laid : Laid limit home_of k.place
   laid = record {
-    homes = λ v l. record { not_eax = refl; not_ecx = refl };
-    homes_fit = λ v l. omega (arith, l);
+    homes = lie.kept;
+    homes_fit = lie.fit;
     places = λ j l. record { not_eax = free_of (k.place j) 0 (omega arith) (serves.places j l); not_ecx = free_of (k.place j) 1 (omega arith) (serves.places j l) };
     places_fit = λ j l. range (k.place j) (serves.places j l);
     apart = λ v j l m. places_differ (home_of v) (k.place j) (λ e. (serves.places j m).free v l (homes v ∙ sym e));

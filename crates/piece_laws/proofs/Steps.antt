@@ -11,17 +11,18 @@ use Rattle.run_model.specs.Run.{Observation, observed, run}
 use Rattle.run_model.specs.Sound.{StoresBytes}
 use Rattle.par_moves.specs.declared.locations.Place.{Place}
 use Rattle.par_moves.specs.declared.locations.Place.TheVariants.{Slot}
-use Rattle.par_moves.specs.Homes.{home_of}
+use Rattle.par_moves.specs.Homes.{home_of, register_homes}
+use Rattle.reg_place.specs.Laws.{HomesLie}
 use Rattle.ssa_form.specs.declared.form.Line.{Line}
 use Rattle.ssa_form.specs.declared.form.Val.{Val}
 use Rattle.ssa_form.specs.Value.{Env, AllAllowed, fold}
 use Rattle.emit_ops.specs.Sequences.{lines_code, moves_code, live_moves, in_order}
-use Rattle.fall_stubs.specs.Exchange.{restore_items}
+use Rattle.fall_stubs.specs.Exchange.{opening_items}
 use Rattle.ia_encode.specs.declared.item.Dest.{Dest}
 use Rattle.ia_encode.specs.declared.item.Item.TheVariants.{Inst as Put, Jump}
 use Rattle.ia_encode.specs.Items.{size_of_items, jump_inst, distance, Reads, Stands, StandsAt}
 use Rattle.code_laws.specs.Seen.{Cells, Sees, Leads, Quiet}
-use Rattle.code_laws.specs.Exchange.{FlagsHeld, Restored}
+use Rattle.code_laws.specs.Exchange.{FlagsHeld, Opened}
 use Rattle.code_laws.specs.Placed.{Laid, Safe, Holds, Left, LinesHold}
 use Rattle.code_laws.specs.Moves.{HomesApart, AreOuts, Settled, MovesSettle}
 use Rattle.code_laws.specs.Laws.{Comes, ExchangeKeeps, TemplateMeans, JumpsLead, TestsMean}
@@ -33,10 +34,11 @@ pub record Below (code : Region) : Type 0 where
   pub lines : (limit : ℕ) (home place : ℕ → Place) (last : ℕ → Bool) → Laid limit home place → LinesHold code limit home place last
   pub settle : (limit : ℕ) (home place : ℕ → Place) → Laid limit home place → HomesApart home → MovesSettle code limit home place
   pub apart : HomesApart home_of
+  pub homes : HomesLie
   pub template : (s : State) (a : Cells) (to : ℕ) (cs : List ℕ) → Sees code s a → TemplateMeans code s a to cs
   pub tests : (s : State) (a : Cells) (to : ℕ) (cs : List ℕ) → Sees code s a → TestsMean code s a to cs
   pub jumps : (dest : Dest → ℕ) → JumpsLead code dest
-  pub exchange : (dest : Dest → ℕ) (s : State) (a : Cells) (cs : List ℕ) → Sees code s a → FlagsHeld a → ExchangeKeeps code [] dest s a cs
+  pub exchange : (dest : Dest → ℕ) (s : State) (a : Cells) (cs : List ℕ) → Sees code s a → FlagsHeld a → ExchangeKeeps code register_homes dest s a cs
   pub valid : (bs : List ℕ) (i : Inst) (n : ℕ) → All (λ b. b < 256) bs → decode_of bs ≡ Some (i, n) → IsTrue (valid_of i)
   pub stores : StoresBytes
 
@@ -88,14 +90,14 @@ module _ (code : Region) (below : Below code) (dest : Dest → ℕ) where
       gets_of b.seen (Comes code to (Settled home_of place live outs b)) 0 (length is) (count_of (map Put is)) u cs h.seen (λ t c. c.sees.seen ∙ c.holds.besides.seen) (omega arith) (omega (arith, n))
       (below.settle limit home_of place laid below.apart live outs u b to cs h are (subst (λ x. StandsAt code x is to) (sym q) (puts_stand dest code is at to s)))
 
-  pub restore_gets : (label : ℕ) (b : Cells) (at : ℕ) (u : State) (cs : List ℕ) → FlagsHeld b → StandsFrom dest code at (restore_items label) → Sees code u b → u.eip ≡ at →
-      Gets (Comes code (at + size_of_items (restore_items label)) (Restored b)) 0 (count_of (restore_items label)) u cs
-  restore_gets label b at u cs bits s h q =
-      let to = at + size_of_items (restore_items label) in
+  pub leaving_gets : (label : ℕ) (b : Cells) (at : ℕ) (u : State) (cs : List ℕ) → FlagsHeld b → StandsFrom dest code at (opening_items register_homes label) → Sees code u b → u.eip ≡ at →
+      Gets (Comes code (at + size_of_items (opening_items register_homes label)) (Opened register_homes b)) 0 (count_of (opening_items register_homes label)) u cs
+  leaving_gets label b at u cs bits s h q =
+      let to = at + size_of_items (opening_items register_homes label) in
       let d = bits.df in
-      let n : 28 ≤ count_of (restore_items label) = omega arith in
-      gets_of b.seen (Comes code to (Restored b)) 0 (27 + b.cell (Slot 13)) (count_of (restore_items label)) u cs h.seen (λ t c. c.sees.seen ∙ c.holds.besides.seen) (omega arith) (omega (arith, n, d))
-      ((below.exchange dest u b cs h bits).restore label to (subst (λ x. Stands dest code x (restore_items label) to) (sym q) s))
+      let n : 31 ≤ count_of (opening_items register_homes label) = omega arith in
+      gets_of b.seen (Comes code to (Opened register_homes b)) 0 (3 + (27 + b.cell (Slot 13))) (count_of (opening_items register_homes label)) u cs h.seen (λ t c. c.sees.seen ∙ c.holds.besides.seen) (omega arith) (omega (arith, n, d))
+      ((below.exchange dest u b cs h bits).leaving label to (subst (λ x. Stands dest code x (opening_items register_homes label) to) (sym q) s))
 
   pub jump_gets : (d : Dest) (b : Cells) (at : ℕ) (u : State) (cs : List ℕ) → dest d < 2 ^ 32 → StandsFrom dest code at (Jump None d ∷ []) → Sees code u b → u.eip ≡ at → Gets (λ t. t ≡ record u { eip = dest d }) 1 1 u cs
   jump_gets d b at u cs low s h q =

@@ -1,6 +1,5 @@
 -- Side exits, and the ways to known blocks.
 use Rattle.std.proofs.Common.{◌≡◌, ℕ, ◌+◌, ◌^◌, ◌<◌, Bool, true, false, List, [], ◌∷◌, ◌++◌, length, None, refl, sym, ap, ◌∙◌, subst, arith, inr}
-use Rattle.std.proofs.lemmas.Bool.{ne_eqb}
 use Rattle.br_word.specs.Memory.{Region, HoldBytes}
 use Rattle.br_word.specs.Words.{bit}
 use Rattle.br_word.specs.State.{State, Flag, CF, PF, ZF, SF, OF, flag_of}
@@ -40,7 +39,7 @@ use Rattle.sim_runs.proofs.Pass.{gets_then, gets_map, size_cut, stands_cut, coun
 use Rattle.piece_laws.specs.Choices.{coding_of, Suits}
 use Rattle.piece_laws.proofs.Named.{named_it}
 use Rattle.piece_laws.proofs.Served.{sunk_of, Ready}
-use Rattle.piece_laws.proofs.Steps.{Below, lines_get, moves_get, restore_gets, jump_gets}
+use Rattle.piece_laws.proofs.Steps.{Below, lines_get, moves_get, leaving_gets, jump_gets}
 
 pub slot_kept : (k : ℕ) → IsKept (Slot k)
 slot_kept k = record { not_eax = refl; not_ecx = refl }
@@ -85,43 +84,43 @@ module _ (c : Coded) (below : Below c.code) (homes : (v : ℕ) → c.home v ≡ 
     abbrev pub Gained : Cells → ℕ → State → Type 0
     Gained b to = Comes c.code to (Regained out whole.mem b)
 
-    slot_is : (q r : Cells) → Holds limit home_of place ready.after [] whole q → Settled home_of place (λ v. true) choice.block.outs q r → (v : ℕ) → v < 14 → r.cell (Slot v) ≡ out v
-    slot_is q r h m v l = m.taken v l refl ∙ held_value limit home_of place ready.after whole q h (out_at choice.block v) (are.each v l) (λ j n. (ready.after_out j (inr (v, l, named_it (out_at choice.block v) j n))).1)
+    home_is : (q r : Cells) → Holds limit home_of place ready.after [] whole q → Settled home_of place (λ v. true) choice.block.outs q r → (v : ℕ) → v < 14 → r.cell (home_of v) ≡ out v
+    home_is q r h m v l = m.taken v l refl ∙ held_value limit home_of place ready.after whole q h (out_at choice.block v) (are.each v l) (λ j n. (ready.after_out j (inr (v, l, named_it (out_at choice.block v) j n))).1)
 
     flags_held : (q r : Cells) → Holds limit home_of place ready.after [] whole q → Settled home_of place (λ v. true) choice.block.outs q r → FlagsHeld r
     flags_held q r h m = record {
-      cf = subst (λ n. n < 2) (sym (slot_is q r h m 8 (omega arith))) (bits.flags CF);
-      pf = subst (λ n. n < 2) (sym (slot_is q r h m 9 (omega arith))) (bits.flags PF);
-      zf = subst (λ n. n < 2) (sym (slot_is q r h m 10 (omega arith))) (bits.flags ZF);
-      sf = subst (λ n. n < 2) (sym (slot_is q r h m 11 (omega arith))) (bits.flags SF);
-      of = subst (λ n. n < 2) (sym (slot_is q r h m 12 (omega arith))) (bits.flags OF);
-      df = subst (λ n. n < 2) (sym (slot_is q r h m 13 (omega arith))) bits.df;
+      cf = subst (λ n. n < 2) (sym (home_is q r h m 8 (omega arith))) (bits.flags CF);
+      pf = subst (λ n. n < 2) (sym (home_is q r h m 9 (omega arith))) (bits.flags PF);
+      zf = subst (λ n. n < 2) (sym (home_is q r h m 10 (omega arith))) (bits.flags ZF);
+      sf = subst (λ n. n < 2) (sym (home_is q r h m 11 (omega arith))) (bits.flags SF);
+      of = subst (λ n. n < 2) (sym (home_is q r h m 12 (omega arith))) (bits.flags OF);
+      df = subst (λ n. n < 2) (sym (home_is q r h m 13 (omega arith))) bits.df;
     }
 
-    regained : (b q r z : Cells) → Left limit home_of place ready.after [] whole b q → Settled home_of place (λ v. true) choice.block.outs q r → exchange.Restored r z → Regained out whole.mem b z
+    regained : (b q r z : Cells) → Left limit home_of place ready.after [] whole b q → Settled home_of place (λ v. true) choice.block.outs q r → exchange.Opened register_homes r z → Regained out whole.mem b z
     regained b q r z h m w = record {
-      regs = λ v l. w.registers v l ∙ slot v (omega arith);
+      regs = λ v l. w.registers v l ∙ home v (omega arith);
       flags = flags;
-      df = w.df ∙ slot 13 (omega arith);
+      df = w.df ∙ home 13 (omega arith);
       outer_is = w.besides.outer ∙ m.besides.outer ∙ h.holds.mem;
       seen = w.besides.seen ∙ m.besides.seen ∙ h.seen;
       brk_start = w.besides.brk_start ∙ m.besides.brk_start ∙ h.brk_start;
       brk = w.besides.brk ∙ m.besides.brk ∙ h.brk;
-      spared = w.slots JUMP_SLOT ∙ m.others (Slot JUMP_SLOT) (slot_kept JUMP_SLOT) (λ v l. not_jump v l) refl ∙ h.kept (Slot JUMP_SLOT) (omega arith) (slot_kept JUMP_SLOT) (λ j l. (suits.clear j l));
+      spared = w.others JUMP_SLOT (omega arith) ∙ m.others (Slot JUMP_SLOT) (slot_kept JUMP_SLOT) (λ v l. not_jump v l) refl ∙ h.kept (Slot JUMP_SLOT) (omega arith) (slot_kept JUMP_SLOT) (λ j l. (suits.clear j l));
     }
       where
         not_jump : (v : ℕ) → v < 14 → same_place (home_of v) (Slot JUMP_SLOT) ≡ false
-        not_jump v l = ne_eqb v JUMP_SLOT (λ e. omega (arith, e, l))
+        not_jump v l = below.homes.slots v JUMP_SLOT l (omega arith)
 
-        slot : (v : ℕ) → v < 14 → r.cell (Slot v) ≡ out v
-        slot = slot_is q r h.holds m
+        home : (v : ℕ) → v < 14 → r.cell (home_of v) ≡ out v
+        home = home_is q r h.holds m
 
         flags : (f : Flag) → bit (flag_of f z.flags) ≡ out (number f)
-        flags CF = w.cf ∙ slot 8 (omega arith)
-        flags PF = w.pf ∙ slot 9 (omega arith)
-        flags ZF = w.zf ∙ slot 10 (omega arith)
-        flags SF = w.sf ∙ slot 11 (omega arith)
-        flags OF = w.of ∙ slot 12 (omega arith)
+        flags CF = w.cf ∙ home 8 (omega arith)
+        flags PF = w.pf ∙ home 9 (omega arith)
+        flags ZF = w.zf ∙ home 10 (omega arith)
+        flags SF = w.sf ∙ home 11 (omega arith)
+        flags OF = w.of ∙ home 12 (omega arith)
 
     pub regain_gets : (label : ℕ) (b : Cells) (at : ℕ) (u : State) (cs : List ℕ) → StandsFrom dest c.code at (regain_items choice label) → Sees c.code u b → u.eip ≡ at → Holds limit home_of place ready.after (sunk_of choice) env b →
         Gets (Gained b (at + size_of_items (regain_items choice label))) 0 (count_of (regain_items choice label)) u cs
@@ -140,9 +139,9 @@ module _ (c : Coded) (below : Below c.code) (homes : (v : ℕ) → c.home v ≡ 
         gets_map (Gained b to) (Gained b to) 0 0 (count_of one + (count_of two + count_of three)) _ u cs (omega arith) (omega (arith, n, m)) (λ t g. g)
         (gets_then _ (Gained b to) 0 0 _ _ u cs (lines_get c.code below dest limit home_of place ready.after ready.laid (sunk_of choice) env b at u cs (ready.sunk_safe unknown) holds allowed a.0 h e)
         (λ t ds q. gets_then _ (Gained b to) 0 0 _ _ t ds (moves_get c.code below dest limit place ready.laid (λ v. true) choice.block.outs are q.cells (at + size_of_items one) t ds d.0 q.sees q.eip)
-        (λ v es r. gets_map (Comes c.code (at + size_of_items one + size_of_items two + size_of_items three) (exchange.Restored r.cells)) (Gained b to) 0 0 _ _ v es (omega arith) (omega arith)
+        (λ v es r. gets_map (Comes c.code (at + size_of_items one + size_of_items two + size_of_items three) (exchange.Opened register_homes r.cells)) (Gained b to) 0 0 _ _ v es (omega arith) (omega arith)
         (λ w g. record { cells = g.cells; sees = g.sees; eip = g.eip ∙ z; holds = regained b q.cells r.cells g.cells q.holds r.holds g.holds })
-        (restore_gets c.code below dest label r.cells (at + size_of_items one + size_of_items two) v es (flags_held q.cells r.cells q.holds.holds r.holds) d.1 r.sees r.eip))))
+        (leaving_gets c.code below dest label r.cells (at + size_of_items one + size_of_items two) v es (flags_held q.cells r.cells q.holds.holds r.holds) d.1 r.sees r.eip))))
 
     -- sunk lines may start where the body is done
     pub sunk_holds : (a : Cells) (at : ℕ) (u : State) → ((v : ℕ) → env.params v ≡ a.cell (c.home v)) → (h : Held c (coding_of choice) env a at u) → Holds limit home_of place ready.after (sunk_of choice) env h.cells

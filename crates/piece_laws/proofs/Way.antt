@@ -169,7 +169,7 @@ module _ (c : Coded) (below : Below c.code) (homes : (v : ℕ) → c.home v ≡ 
         (gets_of b.seen P 0 1 1 u cs h.sees.seen (λ t q. q.sees.seen ∙ q.holds.besides.seen) (omega arith) (omega arith)
         ((below.template u b one cs h.sees).move (Slot JUMP_SLOT) (InPlace (Reg 0)) (omega arith) (omega arith) (subst (λ p. StandsAt c.code p is one) (sym h.eip) (puts_stand dest c.code is at one d.0))))
         (λ t ds q.
-        let held_on : At one t = still_at at one u t h q.cells q.sees q.eip (λ v l. q.holds.others (home_of v) (ready.laid.homes v l) (ne_eqb v JUMP_SLOT (λ e. omega (arith, e, l)))) (λ j l. q.holds.others (place_in choice j) (ready.laid.places j l) (turn (place_in choice j) (suits.clear j l))) q.holds.besides in
+        let held_on : At one t = still_at at one u t h q.cells q.sees q.eip (λ v l. q.holds.others (home_of v) (ready.laid.homes v l) (below.homes.slots v JUMP_SLOT l (omega arith))) (λ j l. q.holds.others (place_in choice j) (ready.laid.places j l) (turn (place_in choice j) (suits.clear j l))) q.holds.besides in
         gets_then _ Q 0 1 (count_of mid) 1 t ds
         (regain_gets c below homes exits choice ready suits are dest env unknown bytes allowed bits 0 held_on.cells one t ds f.0 held_on.sees held_on.eip (sunk_holds c below homes exits choice ready suits are dest env unknown bytes allowed bits a one t params held_on))
         (λ w es g.

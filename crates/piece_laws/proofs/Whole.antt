@@ -160,7 +160,7 @@ module _ (exe : Exe) (edges : List Edge) (c : Coded) (x : ℕ) (choice : Choice)
   plan = plan_of exe edges c
 
   here : Ready choice exits
-  here = ready c.home at_home.home (c.live x) (lift_of exe x) exits choice serves suits
+  here = ready below.homes c.home at_home.home (c.live x) (lift_of exe x) exits choice serves suits
 
   given : Given (lift_of exe x) exits k p (λ v. a.cell (c.home v)) a.outer
   given = gives c.home (c.live x) (lift_of exe x) exits k serves p (λ v. a.cell (c.home v)) a.outer runs.small runs.bytes runs.allowed runs.homes

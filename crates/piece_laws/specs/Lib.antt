@@ -3,4 +3,4 @@ pub mod Pieces
 pub mod Joined
 pub mod Suited
 pub mod Exchange
-pub mod Marked
+pub mod Parts

@@ -6,4 +6,4 @@ mod exchange;
 mod laws;
 
 pub use exchange::{captures_joined, opens_joined};
-pub use laws::{items_are_pieces, marked_serve, pieces_do, suits_hold};
+pub use laws::{items_are_pieces, parted_serve, pieces_do, suits_hold};

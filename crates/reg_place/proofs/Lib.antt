@@ -1,1 +1,8 @@
-pub mod PlacesFrom
+pub mod Order
+pub mod First
+pub mod Last
+pub mod Placed
+pub mod Lie
+pub mod Marks
+pub mod Steps
+pub mod Splits

@@ -5,9 +5,12 @@ use Rattle.ssa_form.specs.declared.form.BinOp.TheVariants.{Add}
 use Rattle.ssa_form.specs.declared.form.Line.{Line}
 use Rattle.ssa_form.specs.declared.form.Line.TheVariants.{Bin, Store}
 
--- eax and 1
+-- eax and 1, and the result of line 0 and 1
 abbrev pub sum : Line
 sum = Bin Add (val.Param 0) (val.Num 1)
+
+abbrev pub after : Line
+after = Bin Add (val.Line 0) (val.Num 1)
 
 -- eax at 4096
 abbrev pub store : Line

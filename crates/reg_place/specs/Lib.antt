@@ -1,2 +1,4 @@
 pub mod Places
+pub mod LastUses
+pub mod Laws
 pub mod Examples

@@ -1,14 +1,17 @@
--- The places of a block's lines.
-use Rattle.std.specs.Prelude.{◌≡◌, ℕ, suc, ◌+◌, ◌<◌, ◌⊎◌, ◌&&◌, ◌||◌, Bool, true, false, List, [], ◌∷◌, length, get_or, Option, Some, None, if◌then◌else◌}
+-- The places of a block's lines: each takes, in the order of placing, the first place that is free.
+use Rattle.std.specs.Prelude.{◌≡◌, ℕ, zero, suc, ◌+◌, ◌<◌, ◌⊎◌, ◌||◌, Bool, true, false, List, [], ◌∷◌, ◌++◌, length, get_or, set, filter, replicate, nat_lt, Option, Some, None, if◌then◌else◌}
 use Rattle.ssa_form.specs.declared.form.Val.{Val}
 use Rattle.ssa_form.specs.declared.form.Val.TheVariants as val
 use Rattle.ssa_form.specs.declared.form.Line.{Line}
 use Rattle.ssa_form.specs.declared.form.Line.TheVariants.{Bin, One, Select, Load, Store, Gone}
 use Rattle.ssa_form.specs.declared.form.Block.{Block}
 use Rattle.ssa_form.specs.declared.form.Split.{Split}
+use Rattle.ssa_form.specs.Agree.{every}
 use Rattle.ssa_form.specs.Checked.{has_result}
+use Rattle.ssa_form.specs.Same.{rows}
+use Rattle.pass_dead.specs.Names.{vals_of, exit_vals, vals_name, outs_name}
 use Rattle.par_moves.specs.declared.locations.Place.{Place}
-use Rattle.par_moves.specs.declared.locations.Place.TheVariants.{Slot}
+use Rattle.par_moves.specs.declared.locations.Place.TheVariants.{Reg, Slot}
 
 -- ---- what a line names
 
@@ -42,20 +45,49 @@ pub record IsSplit (b : Block) (s : Split) : Type 0 where
   pub closed : IsClosed b.lines (is_in s.body)
   pub together : IsClosed b.lines (λ i. is_in s.body i || is_in s.sunk i)
 
+-- ---- the order of placing, and uses
+
+-- the lines of a set, each with its number
+abbrev pub lines_in : List Bool → Block → List (ℕ × Line)
+lines_in set b = filter (λ p. is_in set p.0) (rows b)
+
+-- those of the body, and then the sunk ones
+abbrev pub order : Block → Split → List (ℕ × Line)
+order b s = lines_in s.body b ++ lines_in s.sunk b
+
+-- an out names line j, also one that is dead, or the exit does
+abbrev pub at_end : Block → ℕ → Bool
+at_end b j = outs_name every 0 b.outs j || vals_name (exit_vals b.exit) j
+
+-- one of the lines that are left does, or what comes after all lines
+abbrev pub is_used : (ends : ℕ → Bool) → List (ℕ × Line) → ℕ → Bool
+is_used ends [] j = ends j
+is_used ends (p ∷ ps) j = vals_name (vals_of p.1) j || is_used ends ps j
+
 -- ---- places
 
--- the place of line i, where it has one: its own slot
-abbrev pub line_place : ℕ → Place
-line_place i = Slot (17 + i)
+-- by number: edi, edx, and then slots from 17 on
+abbrev pub place_of : ℕ → Place
+place_of zero = Reg 7
+place_of (suc zero) = Reg 2
+place_of (suc (suc k)) = Slot (17 + k)
 
-abbrev pub place_for : Bool → ℕ → Option Place
-place_for b i = if b then Some (line_place i) else None
+-- the number of the first whose line is used no more, by the lines that took the places, one for each; else of the next
+abbrev pub first_free : (ℕ → Bool) → List ℕ → ℕ
+first_free later [] = 0
+first_free later (i ∷ is) = if later i then suc (first_free later is) else 0
 
--- the places of lines from number i on
-abbrev pub places_from : List Bool → List Bool → ℕ → List Line → List (Option Place)
-places_from body sunk i [] = []
-places_from body sunk i (l ∷ ls) =
-    place_for ((is_in body i || is_in sunk i) && has_result l) i ∷ places_from body sunk (suc i) ls
+-- an entry of a list is changed, or one more comes behind it
+abbrev pub put_at : List ℕ → ℕ → ℕ → List ℕ
+put_at xs k x = if nat_lt k (length xs) then set xs k x else xs ++ x ∷ []
 
+-- lines that are left take their places in order; `takers` has for each place the line that took it last
+abbrev pub placing : (ends : ℕ → Bool) → List ℕ → List (ℕ × Line) → List (Option Place) → List (Option Place)
+placing ends takers [] places = places
+placing ends takers (p ∷ ps) places =
+    let k = first_free (is_used ends ps) takers in
+    if has_result p.1 then placing ends (put_at takers k p.0) ps (set places p.0 (Some (place_of k))) else placing ends takers ps places
+
+-- one entry for each line; a line without a result, or in neither list, has none
 abbrev pub placed : Block → Split → List (Option Place)
-placed b s = places_from s.body s.sunk 0 b.lines
+placed b s = placing (at_end b) [] (order b s) (replicate (length b.lines) None)

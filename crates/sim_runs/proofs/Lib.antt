@@ -20,3 +20,4 @@ pub mod Pass
 mod Pieces
 mod Linked
 mod WholeBlock
+mod PlacedLines

@@ -4,7 +4,6 @@ use Rattle.std.specs.Prelude.{nat_lt, nat_eq}
 use Rattle.std.proofs.lemmas.Bool.{ltb-true}
 use Rattle.std.proofs.lemmas.List.{append-nil}
 use Rattle.par_moves.specs.declared.locations.Place.{Place}
-use Rattle.par_moves.specs.declared.locations.Place.TheVariants.{Reg, Slot}
 use Rattle.ssa_form.specs.declared.form.TheConstants.{REGISTERS}
 use Rattle.ssa_form.specs.declared.form.Val.{Val}
 use Rattle.ssa_form.specs.declared.form.Val.TheVariants.{Param, Line as Named, Num}
@@ -18,7 +17,7 @@ use Rattle.ssa_form.specs.Same.{rows}
 use Rattle.ssa_form.specs.Checked.{has_result, val_checked, line_checked, lines_checked, vals_checked, exit_checked}
 use Rattle.emit_ops.specs.Sequences.{kept}
 use Rattle.sim_runs.specs.Lines.{NamedIn, LineIn, MustStay, Closed, Below, LineBelow, Ordered, either, AllSunk}
-use Rattle.sim_runs.specs.Coding.{out_at, SameKind, ExitIn, IsKept, NoneLost, IsPlace}
+use Rattle.sim_runs.specs.Coding.{out_at, SameKind, ExitIn, NoneLost}
 use Rattle.sim_runs.specs.WholeBlock.{IsWay, TakesAll, AllLinesServe}
 use Rattle.sim_runs.proofs.Known.{and_inv}
 
@@ -60,17 +59,9 @@ same_kind (Cond t taken next) h = (refl, refl)
 same_kind (Way v) h = tt
 same_kind (Island len) h = absurd h
 
-abbrev slot_number : Place → ℕ
-slot_number (Reg r) = 0
-slot_number (Slot k) = k
-
-abbrev is_slot : Place → Bool
-is_slot (Reg r) = false
-is_slot (Slot k) = true
-
 -- ---- all of them are taken
 
-module _ (b : Block) (on body sunk : ℕ → Bool) (place : ℕ → Place) (live : (v : ℕ) → v < 14 → on v ≡ true) (all : TakesAll b body sunk place) where
+module _ (home : ℕ → Place) (b : Block) (on body sunk : ℕ → Bool) (place : ℕ → Place) (live : (v : ℕ) → v < 14 → on v ≡ true) (all : TakesAll home b body sunk place) where
   named : (n : ℕ) (v : Val) → n ≤ length b.lines → val_checked b.lines n v ≡ true → NamedIn on body v
   named n (Param v) l h = live v (ltb-true v REGISTERS h)
   named n (Named j) l h = let k = ltb-true j n (and_inv (nat_lt j n) (has_result (get_or b.lines j Gone)) h).0 in all.taken j (omega (arith, k, l))
@@ -134,42 +125,26 @@ module _ (b : Block) (on body sunk : ℕ → Bool) (place : ℕ → Place) (live
   kept_both : kept body (rows b) ++ kept sunk (rows b) ≡ rows b
   kept_both = ap (λ qs. qs ++ kept sunk (rows b)) (all_kept 0 b.lines (omega arith)) ∙ ap (λ qs. rows b ++ qs) (none_kept (rows b)) ∙ append-nil (rows b)
 
-  apart_from : (i n : ℕ) (rest : List Line) → i < n → n + length rest ≡ length b.lines → IsKept b place i (numbered n rest)
-  apart_from i n [] l e = tt
-  apart_from i n (x ∷ rest) l e =
-      ((λ r s _. let k : 17 + n ≡ 17 + i = ap slot_number (sym (all.own n (omega (arith, e))) ∙ s ∙ all.own i (omega (arith, e, l))) in absurd (omega (arith, k, l))), apart_from i (suc n) rest (omega (arith, l)) (omega (arith, e)))
-
-  none_lost : (n : ℕ) (rest : List Line) → n + length rest ≡ length b.lines → NoneLost b place (numbered n rest)
-  none_lost n [] e = tt
-  none_lost n (x ∷ rest) e = (apart_from n (suc n) rest (omega arith) (omega (arith, e)), none_lost (suc n) rest (omega (arith, e)))
-
-  is_place : (j : ℕ) → j < length b.lines → length b.lines ≤ 2048 → IsPlace (λ v. Slot v) (place j)
-  is_place j l few = subst (IsPlace (λ v. Slot v)) (sym (all.own j l)) (record {
-    free = λ v k e. let n : v ≡ 17 + j = ap slot_number e in absurd (omega (arith, n, k));
-    register = λ r e. absurd (let h : true ≡ false = ap is_slot e in cc);
-    slot = λ k e. let n : 17 + j ≡ k = ap slot_number e in omega (arith, n, l, few);
-  })
-
 pub all_lines_serve : AllLinesServe
-all_lines_serve b on body sunk place exits h few way live all =
+all_lines_serve home b on body sunk place exits h few way live all =
     let p = and_inv (nat_eq (length b.outs) REGISTERS) (lines_checked b.lines 0 b.lines && (vals_checked b.lines (length b.lines) b.outs && exit_checked b.lines (length b.lines) b.exit)) h in
     let q = and_inv (lines_checked b.lines 0 b.lines) (vals_checked b.lines (length b.lines) b.outs && exit_checked b.lines (length b.lines) b.exit) p.1 in
     let r = and_inv (vals_checked b.lines (length b.lines) b.outs) (exit_checked b.lines (length b.lines) b.exit) q.1 in
     let within : length b.lines ≤ length b.lines = omega arith in
     let begins : 0 + length b.lines ≡ length b.lines = omega arith in
-    let out_in : (v : ℕ) → NamedIn on body (out_at b v) = λ v. outs_in b on body sunk place live all (length b.lines) b.outs v within r.0 in
+    let out_in : (v : ℕ) → NamedIn on body (out_at b v) = λ v. outs_in home b on body sunk place live all (length b.lines) b.outs v within r.0 in
     record {
       few = few;
       order = ordered b.lines 0 b.lines q.0;
       named = λ v l. subst (λ n. Below n (out_at b v)) (sym (long 0 b.lines)) (vals_below b.lines (length b.lines) b.outs v r.0);
       kind = same_kind b.exit way;
       same = λ p m small bytes allowed. record { allowed = allowed; outs = λ v l. refl; memory = refl; exit = refl };
-      body = closed b on body sunk place live all 0 b.lines begins q.0;
-      exit = exit_in b on body sunk place live all (length b.lines) b.exit within r.1;
+      body = closed home b on body sunk place live all 0 b.lines begins q.0;
+      exit = exit_in home b on body sunk place live all (length b.lines) b.exit within r.1;
       outs = λ v l k. out_in v;
       apart = λ j e. all.none j;
-      sunk = λ u. none_sunk b on body sunk place live all (rows b);
-      all_outs = λ u v l. either_in b on body sunk place live all (out_at b v) (out_in v);
-      places = λ j l. is_place b on body sunk place live all j l few;
-      lasting = subst (NoneLost b place) (sym (kept_both b on body sunk place live all)) (none_lost b on body sunk place live all 0 b.lines begins);
+      sunk = λ u. none_sunk home b on body sunk place live all (rows b);
+      all_outs = λ u v l. either_in home b on body sunk place live all (out_at b v) (out_in v);
+      places = all.places;
+      lasting = subst (NoneLost b place) (sym (kept_both home b on body sunk place live all)) all.lasting;
     }

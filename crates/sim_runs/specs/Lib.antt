@@ -14,3 +14,4 @@ pub mod WholeBlock
 pub mod Given
 pub mod Passes
 pub mod Pieces
+pub mod PlacedLines

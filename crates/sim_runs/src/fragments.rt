@@ -2,6 +2,7 @@
 ghost use Rattle.sim_runs.specs.Pieces.{FragmentsRun};
 ghost use Rattle.sim_runs.specs.WholeBlock.{AllLinesServe};
 ghost use Rattle.sim_runs.specs.Given.{CodingGives};
+ghost use Rattle.sim_runs.specs.PlacedLines.{PlacesServe};
 
 use ia_decode::encoding_length;
 use ia_encode::{direct_lengths, items_stand, round_trip};
@@ -17,8 +18,8 @@ pub fn fragments_run()
     encoding_length();
 }
 
-/// A block whose names stand for something is served by each coding that runs all of its lines, each in a slot
-/// of its own, where all virtual registers are live.
+/// A block whose names stand for something is served by each coding that runs all of its lines, where all virtual registers are live, no
+/// line's place is a home, and none is given to another line before its last use.
 pub fn all_lines_serve()
     ensures { AllLinesServe }
 {}
@@ -28,3 +29,11 @@ pub fn all_lines_serve()
 pub fn coding_gives()
     ensures { CodingGives }
 {}
+
+/// The places of the lines of a split serve: none is a home, a slot of moves or jumps, or given to another line before its last use.
+pub fn places_serve()
+    ensures { PlacesServe }
+{
+    reg_place::lines_placed();
+    reg_place::places_lie();
+}

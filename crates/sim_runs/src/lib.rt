@@ -5,5 +5,5 @@
 mod fragments;
 mod law;
 
-pub use fragments::{all_lines_serve, coding_gives, fragments_run};
+pub use fragments::{all_lines_serve, coding_gives, fragments_run, places_serve};
 pub use law::{fragment_step, laws_preserve};

@@ -1,13 +1,20 @@
-use Rattle.std.proofs.Common.{◌≡◌, ℕ, ◌^◌, ◌<◌, ◌++◌, List, ◌∙◌, ap, sym, subst}
+use Rattle.std.proofs.Common.{◌≡◌, ℕ, ◌^◌, ◌<◌, ◌++◌, Bool, true, List, ◌∙◌, ap, sym, subst}
+use Rattle.reg_place.specs.Places.{is_in}
 use Rattle.ia_encode.specs.declared.item.Item.{Item}
 use Rattle.ia_encode.specs.Items.{AreValid, size_of_items}
 use Rattle.block_make.specs.Choices.{Choice}
 use Rattle.block_make.specs.FragmentItems.{lines_items, exit_items, items_of}
 use Rattle.block_make.specs.Laws.{AreWords}
-use Rattle.block_make.specs.Prepared.{choice_in}
+use Rattle.block_make.specs.Prepared.{choice_in, is_done}
 use Rattle.block_make.proofs.Emitted.{as_placed}
 use Rattle.block_make.proofs.Fragments.{short, items_are, all_valid, all_short}
+use Rattle.block_make.proofs.Placing.{body_done}
 use Rattle.block_make.proofs.fragment.items_of.Goals as goal
+
+pub emit_lines-requires-clause-done : goal.emit_lines-requires-clause-done
+emit_lines-requires-clause-done c =
+    let s = c.in_ok-prepared.prepared.split in
+    subst (λ (set : List Bool). (i : ℕ) → is_in set i ≡ true → is_done s i ≡ true) (sym c.as_slice-2.ensures) (body_done s)
 
 pub returns-clause-items : goal.returns-clause-items
 unfolding items_of

@@ -1,11 +1,11 @@
-use Rattle.std.proofs.Common.{◌≡◌, ℕ, ◌+◌, ◌<◌, ◌++◌, List, map, length, ◌∙◌, sym, ap, subst, arith}
+use Rattle.std.proofs.Common.{◌+◌, ◌<◌, ◌++◌, List, map, length, ◌∙◌, sym, ap, subst, arith}
 use Rattle.std.specs.Prelude.{Option}
 use Rattle.ia_encode.specs.declared.item.Item.{Item}
 use Rattle.ia_encode.specs.declared.item.Item.TheVariants as item
 use Rattle.ssa_form.specs.declared.form.Line.{Line}
 use Rattle.par_moves.specs.declared.locations.Place.{Place}
 use Rattle.par_moves.specs.Homes.{home_of}
-use Rattle.reg_place.specs.Places.{is_in, placed}
+use Rattle.reg_place.specs.Places.{is_in}
 use Rattle.emit_ops.specs.Placed.{place_at, AreHeld}
 use Rattle.emit_ops.specs.Templates.{line_code}
 use Rattle.block_make.specs.Choices.{place_in}
@@ -22,7 +22,7 @@ emit_line-requires c =
     let n = c.len-index-end.ensures in
     let t = c.loop-index-test.true in
     subst (λ (ps : List (Option Place)). AreHeld ps i c.line.result) (sym c.as_slice-places.ensures.value)
-    (subst (λ (l : Line). AreHeld of.places.items i l) (sym c.line.ensures) (lines_held of.block of.split of.places.items c.requires.prepared i (omega (arith, n, t))))
+    (subst (λ (l : Line). AreHeld of.places.items i l) (sym c.line.ensures) (lines_held of.block of.split of.places.items c.requires.prepared i (omega (arith, n, t)) (c.requires.done i c.if-set-index.true)))
 
 pub loop-index-preserved : goal.loop-index-preserved
 loop-index-preserved c =

@@ -1,18 +1,17 @@
-use Rattle.std.proofs.Common.{◌≡◌, ℕ, ◌+◌, ◌<◌, ◌++◌, ◌∷◌, [], List, length, get_or, not, ◌&&◌, Bool, ◌∙◌, sym, ap, subst, arith}
+use Rattle.std.proofs.Common.{◌≡◌, ◌+◌, ◌<◌, ◌++◌, ◌∷◌, [], List, length, get_or, not, ◌&&◌, ◌∙◌, sym, ap, subst, arith}
 use Rattle.std.specs.Prelude.{Option}
-use Rattle.ssa_form.specs.declared.form.TheConstants.{REGISTERS}
 use Rattle.ssa_form.specs.declared.form.Val.{Val}
 use Rattle.ssa_form.specs.declared.form.Val.TheVariants as val
 use Rattle.par_moves.specs.declared.locations.Place.{Place}
 use Rattle.par_moves.specs.declared.locations.MoveSource.{MoveSource}
 use Rattle.par_moves.specs.declared.locations.PlaceMove.{PlaceMove}
 use Rattle.par_moves.specs.Homes.{home_of}
-use Rattle.emit_ops.specs.Placed.{place_at, IsHeld}
-use Rattle.emit_ops.specs.Sequences.{keeps_itself, move_of}
+use Rattle.emit_ops.specs.Placed.{place_at}
+use Rattle.emit_ops.specs.Sequences.{keeps_itself}
 use Rattle.emit_ops.specs.Templates.{held_by}
 use Rattle.block_make.specs.Choices.{place_in}
-use Rattle.block_make.specs.Prepared.{choice_in, is_live}
-use Rattle.block_make.proofs.Splits.{IsWhole, whole, outs_held}
+use Rattle.block_make.specs.Prepared.{choice_in, is_live, IsFound}
+use Rattle.block_make.proofs.Splits.{whole, outs_found}
 use Rattle.block_make.proofs.Behind.{any_default, moves_left, move_taken, move_left}
 use Rattle.block_make.proofs.moves.live_moves.Goals as goal
 use Rattle.block_make.proofs.moves.live_moves.Goals.{then-is_moved+in_ok-push, else-is_moved}
@@ -30,8 +29,8 @@ source-requires c =
     let t = c.loop-register-test.true in
     let n = (whole of.block c.requires.whole).count in
     let l : v < length of.block.outs = omega (arith, n, t) in
-    subst (λ (ps : List (Option Place)). IsHeld ps (get_or of.block.outs v (val.Param 0))) (sym c.as_slice.ensures.value)
-    (subst (λ (x : Val). IsHeld of.places.items x) (any_default of.block.outs v (val.Num 0) (val.Param 0) l) (outs_held of.block of.split of.places.items c.requires v l))
+    subst (λ (ps : List (Option Place)). IsFound ps (get_or of.block.outs v (val.Param 0))) (sym c.as_slice.ensures.value)
+    (subst (λ (x : Val). IsFound of.places.items x) (any_default of.block.outs v (val.Num 0) (val.Param 0) l) (outs_found of.block of.split of.places.items c.requires v l))
 
 pub loop-register-preserved : goal.loop-register-preserved
 loop-register-preserved c =

@@ -16,6 +16,12 @@ use Rattle.build_core.proofs.Known.{known_is, key_there}
 use Rattle.build_core.proofs.WholeCode.{both, is_short, is_long}
 use Rattle.build_core.proofs.image.laid_out.Goals as goal
 
+pub keys_of-requires-clause-guest : goal.keys_of-requires-clause-guest
+keys_of-requires-clause-guest c = original_is_guest c.args.exe.now c.requires.original
+
+pub keys_of-requires-clause-graph : goal.keys_of-requires-clause-graph
+keys_of-requires-clause-graph c = (c.args.edges.now, c.requires.graph)
+
 pub layout_of-requires-clause-guest : goal.layout_of-requires-clause-guest
 layout_of-requires-clause-guest c = original_is_guest c.args.exe.now c.requires.original
 

@@ -2,7 +2,7 @@ use Rattle.std.proofs.Common.{◌∙◌, ◌++◌, ◌∷◌, [], map, None}
 use Rattle.ia_encode.specs.declared.item.Item.TheVariants as item
 use Rattle.par_moves.specs.Homes.{register_homes}
 use Rattle.fall_stubs.specs.Exchange.{spill_items, restore_items, capture_items, closing_items}
-use Rattle.fall_stubs.proofs.Parts.{anyway, follows, both, grew_whole, grew_more, grew_wider}
+use Rattle.fall_stubs.proofs.Parts.{anyway, follows, goes_on, both, grew_whole, grew_more, grew_wider}
 use Rattle.fall_stubs.proofs.exchange.island.Goals as goal
 
 pub returns-in_err-restore-clause-err : goal.returns-in_err-restore-clause-err
@@ -39,3 +39,13 @@ returns-clause-err c =
     let jump = item.Jump None c.args.next ∷ [] in
     let e = both c.args.p.now c.spill.new.p c.restore.new.p spilled restored c.in_ok-spill.ensures.ok c.in_ok-restore.ensures.ok in
     follows _ c.jump.ensures.err (λ h. grew_more c.args.p.now c.restore.new.p c.jump.new.self (spilled ++ restored) (own ++ (captured ++ jump)) e (grew_more c.restore.new.p c.put_bytes.new.self c.jump.new.self own (captured ++ jump) c.in_ok-put_bytes.ensures.ok (grew_whole c.put_bytes.new.self c.jump.new.self captured jump (h ∙ c.in_ok-capture.ensures.ok))))
+
+pub returns-clause-ok : goal.returns-clause-ok
+returns-clause-ok c =
+    let spilled = spill_items register_homes in
+    let restored = restore_items c.args.label in
+    let own = map item.Byte c.args.bytes.now in
+    let captured = capture_items register_homes in
+    let jump = item.Jump None c.args.next ∷ [] in
+    let e = both c.args.p.now c.spill.new.p c.restore.new.p spilled restored c.in_ok-spill.ensures.ok c.in_ok-restore.ensures.ok in
+    goes_on _ c.jump.ensures.ok (λ h. both c.args.p.now c.restore.new.p c.jump.new.self (spilled ++ restored) (own ++ (captured ++ jump)) e (both c.restore.new.p c.put_bytes.new.self c.jump.new.self own (captured ++ jump) c.in_ok-put_bytes.ensures.ok (both c.put_bytes.new.self c.capture.new.p c.jump.new.self captured jump c.in_ok-capture.ensures.ok h)))

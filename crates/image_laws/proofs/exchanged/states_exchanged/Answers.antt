@@ -14,7 +14,9 @@ returns c =
       decodes = decodes;
       valid = c.code_valid.ensures;
       stand = c.items_stand.ensures;
-      keeps = c.exchange_keeps.ensures;
+      opening = c.opens_joined.ensures;
+      closing = c.captures_joined.ensures.closes;
+      entering = c.captures_joined.ensures.enters;
       jumps = c.jumps_lead.ensures;
     } in
     states_exchanged laws

@@ -10,4 +10,4 @@ returns c =
       decides = c.encoding_decides.ensures;
       long = c.encoding_length.ensures;
     } in
-    images_laid laws c.read_back.ensures
+    images_laid laws c.read_back.ensures c.sets_are_narrow.ensures.rows c.sets_are_narrow.ensures.closed

@@ -10,6 +10,7 @@ returns c =
       stands = c.code_stands.ensures;
       serve = c.codings_serve.ensures;
       lifted = c.lifted_blocks.ensures;
+      keeps = c.ready_keeps.ensures;
       joined = c.items_are_pieces.ensures;
       run = c.pieces_do.ensures;
       suit = c.suits_hold.ensures;

@@ -20,7 +20,7 @@ returns c =
     ∙ lifted_made i c.args.at c.args.len old _ t c.exit_of-exit.result c.in_ok-row.ensures.rowed c.append.ensures c.exit_of-exit.ensures c.close.ensures.count in
     record {
       lines = same;
-      few = λ h. subst (λ (b : Block). length b.lines ≤ length old.lines + 32) (sym same) (few_lines i c.args.at c.args.len old h);
+      few = subst (λ (b : Block). length b.lines ≤ length old.lines + 32) (sym same) (few_lines i c.args.at c.args.len old);
       whole = λ h. subst (λ (b : Block). checked b ≡ true) (sym same) (lifted_checked i c.args.at c.args.len old h);
       words = λ h w. subst SpellsWords (sym same) (lifted_words i c.args.at c.args.len old h w);
     }

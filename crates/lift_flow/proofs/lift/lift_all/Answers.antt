@@ -15,7 +15,7 @@ loop-done-preserved c =
     let here = c.in-Some.here in
     let l : c.loop-done.done < length is = omega arith in
     let left = goes_on c.args.exe.now c.loop-done.at c.loop-done.done is c.loop-done.block c.lift_inst.new.block _ here.inst here.len l c.in-Some.ensures.inst c.in_ok-lift_inst.ensures.lines c.loop-done.invariant.rest c.loop-done.invariant.stand in
-    let few : length c.lift_inst.new.block.lines ≤ length c.loop-done.block.lines + 32 = c.lift_inst.ensures.few c.in-Some.ensures.valid in
+    let few : length c.lift_inst.new.block.lines ≤ length c.loop-done.block.lines + 32 = c.lift_inst.ensures.few in
     record {
       rest = left.rest;
       stand = left.stand;

@@ -1,6 +1,10 @@
-use Rattle.std.proofs.Common.{◌≡◌, ◌++◌, drop}
-use Rattle.reg_place.specs.Places.{placed, places_from}
+use Rattle.std.proofs.Common.{◌≡◌, ◌≤◌, length, vec_len}
+use Rattle.reg_place.proofs.Steps.{Goes}
 use Rattle.reg_place.proofs.placing.place.Given as goal
 
-abbrev pub invariant-loop-index : goal.invariant-loop-index
-invariant-loop-index l = placed l.b l.s ≡ l.places.items ++ places_from l.s.body l.s.sunk l.index (drop l.index l.b.lines)
+abbrev pub invariant-loop-at : goal.invariant-loop-at
+invariant-loop-at l = record {
+  len : vec_len l.places ≡ length l.b.lines;
+  few : vec_len l.busy ≤ l.at;
+  now : Goes l.b l.s l.at l.busy.items l.places.items;
+}
