@@ -1,5 +1,5 @@
 -- What the top call owes follows from what was answered, and from the laws of the plans.
-use Rattle.std.proofs.Common.{◌≡◌, ℕ, ◌+◌, List, [], Result, Ok, Err, sym, subst}
+use Rattle.std.proofs.Common.{◌≡◌, ◌≤◌, ℕ, ◌+◌, List, [], Result, Ok, Err, sym, subst}
 use Rattle.top_plan.specs.World.{World}
 use Rattle.top_plan.specs.Plan.{Plan}
 use Rattle.top_plan.specs.Happened.{Happened, Answered}
@@ -19,10 +19,13 @@ use Rattle.top_graph.specs.MergePlan.{merge_plan}
 use Rattle.top_graph.specs.MergeMeaning.{MeansMerge}
 use Rattle.top_graph.specs.ShowPlan.{show_plan}
 use Rattle.top_graph.specs.ShowMeaning.{MeansShow}
+use Rattle.top_demo.specs.DemoPlan.{demo_plan}
+use Rattle.top_demo.specs.DemoMeaning.{MeansDemo}
 use Rattle.binrec.specs.Words.{IsFitting, asked_by}
 use Rattle.binrec.specs.Commands.{plan_of, planned, plan}
 use Rattle.binrec.specs.Meaning.{MeansUsage}
 use Rattle.binrec.proofs.UsageMeant.{NeverOne, means_usage}
+use Rattle.binrec.proofs.WordsFit.{fit_asked}
 
 -- whatever holds of the plan of the command that was asked for
 pub asked_for : (P : Result Plan ℕ → Type 0) (words : List (List ℕ)) (asked : Asked) (word : ℕ) → asked_by words ≡ Ok asked → word ≡ first_name words → P (plan_of asked word) → P (plan words)
@@ -55,6 +58,7 @@ pub record AreOrderly : Type 0 where
   pub trace : (steps : ℕ) (target original : List ℕ) (args : List (List ℕ)) (word : ℕ) → IsOrderly (trace_plan steps target original args word)
   pub merge : (target original : List ℕ) (names : List (List ℕ)) → IsOrderly (merge_plan target original names)
   pub show : (original : List ℕ) (names : List (List ℕ)) → IsOrderly (show_plan original names)
+  pub demo : (count : ℕ) → IsOrderly (demo_plan count)
 
 -- what their answers mean
 pub record Meanings : Type 0 where
@@ -64,6 +68,7 @@ pub record Meanings : Type 0 where
       → Happened (trace_plan steps target original args word) s result t → MeansTrace steps target original args word s result t
   pub merge : (target original : List ℕ) (names : List (List ℕ)) (s : World) (result : ℕ) (t : World) → Happened (merge_plan target original names) s result t → MeansMerge target original names s result t
   pub show : (original : List ℕ) (names : List (List ℕ)) (s : World) (result : ℕ) (t : World) → Happened (show_plan original names) s result t → MeansShow original names s result t
+  pub demo : (count : ℕ) (s : World) (result : ℕ) (t : World) → 1 ≤ count → count ≤ 1000 → Happened (demo_plan count) s result t → MeansDemo count s result t
 
 -- what a run of any plan comes to
 pub record PlanLaw : Type 0 where
@@ -89,7 +94,7 @@ orderly_of law (Runs steps name args) word p is = same_plan (run_plan steps name
 orderly_of law (Merges target original names) word p is = same_plan (merge_plan target original names) p is (law.merge target original names)
 orderly_of law (Shows original names) word p is = same_plan (show_plan original names) p is (law.show original names)
 orderly_of law (Sessions original) word p is = none_there 0 p is
-orderly_of law (Demos count) word p is = none_there 0 p is
+orderly_of law (Demos count) word p is = same_plan (demo_plan count) p is (law.demo count)
 
 orderly : AreOrderly → (read : Result Asked ℕ) (word : ℕ) (p : Plan) → planned read word ≡ Ok p → IsOrderly p
 orderly law (Ok asked) word p is = orderly_of law asked word p is
@@ -111,6 +116,7 @@ pub record AllOf (words : List (List ℕ)) (s : World) (result : ℕ) (t : World
   pub trace : (steps : ℕ) (target original : List ℕ) (args : List (List ℕ)) → asked_by words ≡ Ok (Traces steps target original args) → MeansTrace steps target original args (first_name words + 1) s result t
   pub merge : (target original : List ℕ) (names : List (List ℕ)) → asked_by words ≡ Ok (Merges target original names) → MeansMerge target original names s result t
   pub show : (original : List ℕ) (names : List (List ℕ)) → asked_by words ≡ Ok (Shows original names) → MeansShow original names s result t
+  pub demo : (count : ℕ) → asked_by words ≡ Ok (Demos count) → MeansDemo count s result t
 
 pub all_of : (words : List (List ℕ)) (s : World) (result : ℕ) (t : World) → PlanLaw → AreOrderly → Meanings → Answered (plan words) s result t → AllOf words s result t
 all_of words s result t law order meanings h =
@@ -130,4 +136,5 @@ all_of words s result t law order meanings h =
       trace = λ steps target original args is. meanings.trace steps target original args (first_name words + 1) s result t (of_words (Traces steps target original args) is);
       merge = λ target original names is. meanings.merge target original names s result t (of_words (Merges target original names) is);
       show = λ original names is. meanings.show original names s result t (of_words (Shows original names) is);
+      demo = λ count is. let fits = fit_asked words (Demos count) is in meanings.demo count s result t fits.0 fits.1 (of_words (Demos count) is);
     }

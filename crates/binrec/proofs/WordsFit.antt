@@ -1,5 +1,5 @@
 -- What the words give a command: arguments that fit, a number of steps of at most 18 digits, and at most 4096 traces.
-use Rattle.std.proofs.Common.{◌≡◌, ◌<◌, ◌≤◌, ◌+◌, ◌-◌, ◌*◌, ◌^◌, ◌&&◌, ◌||◌, if◌then◌else◌, nat_le, nat_lt, not, ℕ, suc, Bool, true, false, cond, List, [], ◌∷◌, ◌++◌, length, map, codes, Option, Some, None, Result, Ok, Err, refl, sym, ◌∙◌, ap, subst, arith, lit<, lit≤, length-append}
+use Rattle.std.proofs.Common.{◌≡◌, ◌<◌, ◌≤◌, ◌+◌, ◌-◌, ◌*◌, ◌^◌, ◌&&◌, ◌||◌, if◌then◌else◌, nat_le, nat_lt, not, min, ℕ, suc, Bool, true, false, cond, List, [], ◌∷◌, ◌++◌, length, map, codes, Option, Some, None, Result, Ok, Err, refl, sym, ◌∙◌, ap, subst, arith, lit<, lit≤, length-append}
 use Rattle.std.proofs.lemmas.Bool.{leb-true, leb-false, ltb-false}
 use Rattle.std.proofs.Math.Nat.{mul-le-mul_right, pow-succ', pow-le-pow_right, mul_assoc}
 use Rattle.std.specs.Str.{bytes_eq}
@@ -7,7 +7,7 @@ use Rattle.std.specs.Int.Digits.{number_from_digits_after}
 use Rattle.run_model.specs.Opening.{FitArguments, texts, arguments}
 use Rattle.word_reader.specs.Numbers.{are_digits, is_digit, number_of_digits, number_in}
 use Rattle.word_reader.specs.Words.{Asked, Builds, Traces, Runs, Merges, Shows, Sessions, Demos, is_name, next_name, no_more, unless_wrong, or_wrong, first_no_argument, first_no_trace, traces_at, arguments_at, own_bytes, steps_behind, next_steps, build_words, trace_words, run_words, merge_words, show_words, session_words, demo_words, demo_count, command, is_steps, first_name}
-use Rattle.binrec.specs.Words.{Fits, IsFitting}
+use Rattle.binrec.specs.Words.{Fits, IsFitting, words_taken, within, asked_by}
 
 -- ---- tests
 
@@ -158,7 +158,11 @@ fit_session words = fit_name 1 words (λ e words. no_more 2 words (Sessions e)) 
 fit_demo : (words : List (List ℕ)) → Fit (demo_words words)
 unfolding Fit
 fit_demo [] = tt
-fit_demo (word ∷ words) = fit_number 1 (number_in 18 word) (λ count. demo_count count words) (λ count is. fit_cond (nat_le 1 count && nat_le count 1000) (no_more 2 words (Demos count)) (Err 1) (fit_no_more 2 words (Demos count) tt) tt)
+fit_demo (word ∷ words) = fit_number 1 (number_in 18 word) (λ count. demo_count count words) (λ count is. go count (nat_le 1 count && nat_le count 1000) refl)
+  where
+    go : (count : ℕ) (b : Bool) → (nat_le 1 count && nat_le count 1000) ≡ b → Fit (cond b (no_more 2 words (Demos count)) (Err 1))
+    go count true is = let tests = both (nat_le 1 count) (nat_le count 1000) is in fit_no_more 2 words (Demos count) (leb-true 1 count tests.0, leb-true count 1000 tests.1)
+    go count false is = tt
 
 fit_command : (words : List (List ℕ)) → Fit (command words)
 unfolding Fit command
@@ -176,6 +180,21 @@ fit_command (word ∷ words) =
 pub fit_read : (words : List (List ℕ)) (asked : Asked) → command words ≡ Ok asked → IsFitting asked
 unfolding Fit
 fit_read words asked is = let h : Fit (Ok asked) = subst Fit is (fit_command words) in h
+
+-- the words taken change no command
+within_ok : (taken : Option ℕ) (count : ℕ) (read : Result Asked ℕ) (asked : Asked) → within taken count read ≡ Ok asked → read ≡ Ok asked
+within_ok None count read asked is = is
+within_ok (Some k) count (Ok a) asked is = go (nat_le count k) is
+  where
+    go : (b : Bool) → cond b (Ok a) (Err k) ≡ Ok asked → (let r : Result Asked ℕ = Ok a in r) ≡ Ok asked
+    go true is = is
+    go false is = absurd (let z : (let r : Result Asked ℕ = Err k in r) ≡ Ok asked = is in cc)
+within_ok (Some k) count (Err at) asked is = absurd (let z : (let r : Result Asked ℕ = Err (min at k) in r) ≡ Ok asked = is in cc)
+
+-- and so what is asked for
+pub fit_asked : (words : List (List ℕ)) (asked : Asked) → asked_by words ≡ Ok asked → IsFitting asked
+fit_asked [] asked is = absurd (let z : (let r : Result Asked ℕ = Err 0 in r) ≡ Ok asked = is in cc)
+fit_asked (word ∷ words) asked is = fit_read (word ∷ words) asked (within_ok (words_taken word) (length words + 1) (command (word ∷ words)) asked is)
 
 -- ---- positions
 

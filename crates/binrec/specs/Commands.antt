@@ -7,6 +7,7 @@ use Rattle.top_run.specs.RunPlan.{run_plan}
 use Rattle.top_run.specs.TracePlan.{trace_plan}
 use Rattle.top_graph.specs.MergePlan.{merge_plan}
 use Rattle.top_graph.specs.ShowPlan.{show_plan}
+use Rattle.top_demo.specs.DemoPlan.{demo_plan}
 use Rattle.binrec.specs.Words.{asked_by}
 
 -- by the command, and where its first name stands; of those that are not there yet the first word is wrong
@@ -17,7 +18,7 @@ plan_of (Runs steps name args) word = Ok (run_plan steps name args word)
 plan_of (Merges target original names) word = Ok (merge_plan target original names)
 plan_of (Shows original names) word = Ok (show_plan original names)
 plan_of (Sessions original) word = Err 0
-plan_of (Demos count) word = Err 0
+plan_of (Demos count) word = Ok (demo_plan count)
 
 abbrev pub planned : Result Asked ℕ → ℕ → Result Plan ℕ
 planned (Ok asked) word = plan_of asked word

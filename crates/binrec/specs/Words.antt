@@ -1,15 +1,15 @@
 -- The commands that are there so far, read from the words of the command line.
-use Rattle.std.specs.Prelude.{◌≡◌, ◌≤◌, ◌+◌, ◌^◌, ◌||◌, ℕ, min, nat_le, List, [], ◌∷◌, length, codes, Option, Some, None, Result, Ok, Err, cond}
-use Rattle.word_reader.specs.declared.limits.TheConstants.{TRACE_LIMIT}
+use Rattle.std.specs.Prelude.{◌≡◌, ◌≤◌, ◌+◌, ◌^◌, ℕ, min, nat_le, List, [], ◌∷◌, length, codes, Option, Some, None, Result, Ok, Err, cond}
+use Rattle.word_reader.specs.declared.limits.TheConstants.{TRACE_LIMIT, DEMO_LIMIT}
 use Rattle.std.specs.Str.{bytes_eq}
 use Rattle.run_model.specs.Opening.{FitArguments}
-use Rattle.word_reader.specs.Words.{Asked, Builds, Traces, Runs, Merges, Shows, command}
+use Rattle.word_reader.specs.Words.{Asked, Builds, Traces, Runs, Merges, Shows, Demos, command}
 use Rattle.word_reader.specs.Reads.{asked_of}
 use Rattle.word_reader.specs.declared.command.Command.{Command}
 
--- How many words a command takes so far, its own included, where it does not take all: `session` and `demo` are not there yet.
+-- How many words a command takes so far, its own included, where it does not take all: `session` is not there yet.
 abbrev pub words_taken : List ℕ → Option ℕ
-words_taken word = cond (bytes_eq word (codes "session") || bytes_eq word (codes "demo")) (Some 0) None
+words_taken word = cond (bytes_eq word (codes "session")) (Some 0) None
 
 -- what was read of so many words, where no more than these are taken
 abbrev pub within : Option ℕ → ℕ → Result Asked ℕ → Result Asked ℕ
@@ -39,6 +39,7 @@ IsFitting (Traces steps target original args) = Fits steps args
 IsFitting (Runs steps name args) = Fits steps args
 IsFitting (Merges target original names) = length names ≤ TRACE_LIMIT
 IsFitting (Shows original names) = length names ≤ TRACE_LIMIT
+IsFitting (Demos count) = (1 ≤ count) × (count ≤ DEMO_LIMIT)
 IsFitting _ = Unit {0}
 
 -- the position of the first wrong word, where one at this position is wrong whatever stands before it

@@ -1,8 +1,8 @@
 //! A recompiler for static i386 executables.
 //!
 //! `build N E` reads the executable E and stores, as N, a file that does what E does. `run` and `trace` run an
-//! executable in a machine of the program's own, `trace` and `merge` store the control-flow edges of runs, and `show` lists
-//! the blocks that they have seen.
+//! executable in a machine of the program's own, `trace` and `merge` store the control-flow edges of runs, `show` lists
+//! the blocks that they have seen, and `demo` shows all of this on a program that it makes.
 #![tactic(auto)]
 
 mod arguments;

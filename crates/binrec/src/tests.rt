@@ -1,6 +1,7 @@
 //! Whole commands over objects in memory.
 mod arguments;
 mod build;
+mod demo;
 mod listings;
 mod refusals;
 mod run;

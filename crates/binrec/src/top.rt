@@ -8,13 +8,14 @@ ghost use Rattle.top_plan.specs.Happened.{TellsLine, Answered};
 ghost use Rattle.top_plan.specs.Expected.{IsExact, IsComplete, HasCause};
 ghost use Rattle.top_plan.specs.Partial.{IsPartial};
 ghost use Rattle.top_plan.specs.Steady.{IsSteady};
-ghost use Rattle.word_reader.specs.Words.{Builds, Traces, Runs, Merges, Shows, first_name};
+ghost use Rattle.word_reader.specs.Words.{Builds, Traces, Runs, Merges, Shows, Demos, first_name};
 ghost use Rattle.word_reader.specs.Reads.{asked_of};
 ghost use Rattle.top_build.specs.BuildMeaning.{MeansBuild};
 ghost use Rattle.top_run.specs.RunMeaning.{MeansRun};
 ghost use Rattle.top_run.specs.TraceMeaning.{MeansTrace};
 ghost use Rattle.top_graph.specs.MergeMeaning.{MeansMerge};
 ghost use Rattle.top_graph.specs.ShowMeaning.{MeansShow};
+ghost use Rattle.top_demo.specs.DemoMeaning.{MeansDemo};
 ghost use Rattle.binrec.specs.Words.{IsFitting, asked_by};
 ghost use Rattle.binrec.specs.Commands.{plan_of, plan};
 ghost use Rattle.binrec.specs.Meaning.{MeansUsage};
@@ -23,6 +24,7 @@ use crate::words::read_command;
 use br_outside::{Shelf, Sink, Source};
 use std::alloc::Global;
 use top_build::{build_command, build_law};
+use top_demo::{demo_command, demo_law};
 use top_graph::{merge_command, merge_law, show_command, show_law};
 use top_plan::{Halt, Outcome, plan_law, tell_halt, tell_outcome, tell_usage};
 use top_run::{run_command, run_law, trace_command, trace_law};
@@ -89,7 +91,7 @@ fn answer<F: Shelf, I: Source, O: Sink, R: Sink>(
             tell_end(report, end)
         }
         Command::Session { .. } => tell_usage(report, 0),
-        Command::Demo { .. } => tell_usage(report, 0),
+        Command::Demo { count } => tell_end(report, demo_command(alloc, out, count)),
     }
 }
 
@@ -102,13 +104,15 @@ fn answer<F: Shelf, I: Source, O: Sink, R: Sink>(
 /// | `run [--steps K] E WORD..` | runs E for at most K steps | `exit S steps M undefined U` |
 /// | `merge T E T..` | stores the union of the later traces of E as the first T | `merged P` |
 /// | `show E T..` | prints the listing of the blocks that the traces of E have seen | `shown B`, B the number of blocks |
+/// | `demo K` | traces a program with K functions, builds it with that trace, runs both, and prints one line | none |
 ///
 /// A name is a text of 1 to 4096 bytes; at most 4096 traces are fetched. K is 1 to 18 decimal digits, and
-/// 100000000 where it is not given. A guest takes its input of `input`, prints on `out` and reports on
-/// `report`; `build`, `merge` and `show` take nothing, and of these `show` alone prints. S is the guest's status, M the number of its
+/// 100000000 where it is not given; that of `demo` is from 1 to 1000. A guest takes its input of `input`, prints on `out` and reports on
+/// `report`; `build`, `merge`, `show` and `demo` take nothing, and of these `show` and `demo` print. `demo` answers 0, 3 or 4 and, where its
+/// words are wrong, 1; it calls no file. S is the guest's status, M the number of its
 /// steps, U how many of them read a flag that was not defined, and P a number of edges.
 ///
-/// The last call gives the report line. The statuses, and the lines that come with them:
+/// The last call gives the report line, which `demo` has not after status 0. The statuses, and the lines that come with them:
 ///
 /// - 0: all was done; the guest exited. The line is as above.
 /// - 1: the words are no command. `usage W`, W the position of the first wrong word, from 0, or the number of words where one is
@@ -134,7 +138,7 @@ fn answer<F: Shelf, I: Source, O: Sink, R: Sink>(
 /// objects that tell what they hold the answer is the expected one, unless memory is wanting or an object fails; `partial`,
 /// what an interrupted command leaves is a front part of what the whole one does; `cause`, status 3 names an object whose
 /// count rose; `steady`, a fault stands at the call that met it: the counts rise as the status says and no more; `usage`,
-/// `build`, `run`, `trace`, `merge` and `show`, what the statuses mean.
+/// `build`, `run`, `trace`, `merge`, `show` and `demo`, what the statuses mean.
 pub fn binrec<F: Shelf, I: Source, O: Sink, R: Sink>(
     alloc: Global,
     words: &[String],
@@ -187,6 +191,9 @@ pub fn binrec<F: Shelf, I: Source, O: Sink, R: Sink>(
         → MeansShow original names
         (world (F.seen shelf.old) (I.seen input.old) (O.seen out.old) (R.seen report.old)) result.0
         (world (F.seen shelf.new) (I.seen input.new) (O.seen out.new) (R.seen report.new)) }
+    ensures demo { (count : ℕ) → asked_by (map string_bytes words.now) ≡ Ok (Demos count) → MeansDemo count
+        (world (F.seen shelf.old) (I.seen input.old) (O.seen out.old) (R.seen report.old)) result.0
+        (world (F.seen shelf.new) (I.seen input.new) (O.seen out.new) (R.seen report.new)) }
 {
     plan_law();
     build_law();
@@ -194,6 +201,7 @@ pub fn binrec<F: Shelf, I: Source, O: Sink, R: Sink>(
     trace_law();
     merge_law();
     show_law();
+    demo_law();
     match read_command(words) {
         Ok(command) => {
             let first = first_name(words);

@@ -5,18 +5,18 @@ ghost use Rattle.binrec.specs.Words.{Reads, IsFitting, words_taken, asked_by};
 
 use word_reader::{Command, read_words};
 
-/// How many words the command of this word takes so far, its own included, where it does not take all yet: `session` and
-/// `demo` are not there.
+/// How many words the command of this word takes so far, its own included, where it does not take all yet: `session` is not
+/// there.
 fn words_taken(word: &str) -> Option<u32>
     ensures { result ≡ words_taken word.now }
 {
-    if word == "session" || word == "demo" {
+    if word == "session" {
         return Some(0);
     }
     None
 }
 
-/// Reads the words after the program's name as `build`, `trace`, `run`, `merge` or `show`, whose names and numbers fit
+/// Reads the words after the program's name as `build`, `trace`, `run`, `merge`, `show` or `demo`, whose names and numbers fit
 /// what they do.
 ///
 /// The error is the position, from 0, of the first word that is wrong or not taken yet, or the number of words where one

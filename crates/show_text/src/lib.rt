@@ -7,6 +7,7 @@ mod numbers;
 mod ways;
 
 pub use block::{show_block, show_cut_block};
+pub use numbers::bytes_text;
 
 #[cfg(test)]
 mod tests;

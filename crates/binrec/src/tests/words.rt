@@ -4,7 +4,7 @@ use std::test::Fail;
 
 #[test]
 fn reads_the_words(rt: HostRuntime) -> Result<(), Fail> {
-    let stated: [(&[&str], &str); 15] = [
+    let stated: [(&[&str], &str); 21] = [
         (&[], "usage 0\n"),
         (&["built", "N", "E"], "usage 0\n"),
         (&["build"], "usage 1\n"),
@@ -16,7 +16,13 @@ fn reads_the_words(rt: HostRuntime) -> Result<(), Fail> {
         (&["build", "N", "E", "T", ""], "usage 4\n"),
         (&["show"], "usage 1\n"),
         (&["session", "E", "F"], "usage 0\n"),
-        (&["demo", "0"], "usage 0\n"),
+        (&["demo"], "usage 1\n"),
+        (&["demo", "0"], "usage 1\n"),
+        (&["demo", "1001"], "usage 1\n"),
+        (&["demo", "x"], "usage 1\n"),
+        (&["demo", "+1"], "usage 1\n"),
+        (&["demo", "0000000000000000001"], "usage 1\n"),
+        (&["demo", "1", "2"], "usage 2\n"),
         (&["run"], "usage 1\n"),
         (&["run", "--steps", "x", "E"], "usage 2\n"),
         (&["run", "--steps", "1"], "usage 3\n"),

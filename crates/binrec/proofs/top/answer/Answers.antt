@@ -1,4 +1,4 @@
-use Rattle.std.proofs.Common.{◌+◌, ◌≤◌, length, map, string_bytes, refl, arith}
+use Rattle.std.proofs.Common.{ℕ, ◌+◌, ◌≤◌, length, map, string_bytes, refl, arith}
 use Rattle.std.proofs.lemmas.List.{length-map}
 use Rattle.top_plan.specs.World.{world}
 use Rattle.top_plan.specs.Texts.{end_of}
@@ -8,6 +8,7 @@ use Rattle.top_run.specs.RunPlan.{run_plan}
 use Rattle.top_run.specs.TracePlan.{trace_plan}
 use Rattle.top_graph.specs.MergePlan.{merge_plan}
 use Rattle.top_graph.specs.ShowPlan.{show_plan}
+use Rattle.top_demo.specs.DemoPlan.{demo_plan}
 use Rattle.binrec.specs.Words.{Fits}
 use Rattle.binrec.proofs.TopClauses.{answers_as, fits_as}
 use Rattle.binrec.proofs.top.answer.Goals as goal
@@ -38,6 +39,12 @@ trace_command-end-requires-clause-fit g c = let fits : Fits c.in-Trace.steps (ma
 
 pub trace_command-end-requires-clause-few : goal.trace_command-end-requires-clause-few
 trace_command-end-requires-clause-few g c = let fits : Fits c.in-Trace.steps (map string_bytes c.in-Trace.args.now) = fits_as _ _ c.in-Trace.is c.requires.fitting in fits.few
+
+pub demo_command-requires-clause-some : goal.demo_command-requires-clause-some
+demo_command-requires-clause-some g c = let fits : (1 ≤ c.in-Demo.count) × (c.in-Demo.count ≤ 1000) = fits_as _ _ c.in-Demo.is c.requires.fitting in fits.0
+
+pub demo_command-requires-clause-few : goal.demo_command-requires-clause-few
+demo_command-requires-clause-few g c = let fits : (1 ≤ c.in-Demo.count) × (c.in-Demo.count ≤ 1000) = fits_as _ _ c.in-Demo.is c.requires.fitting in fits.1
 
 pub returns-in-Build : goal.returns-in-Build
 returns-in-Build g c =
@@ -78,3 +85,11 @@ returns-in-Trace g c =
     let t = world (g.F.Shelf.seen c.trace_command-end.new.shelf) (g.I.Source.seen c.trace_command-end.new.input) (g.O.Sink.seen c.trace_command-end.new.out) (g.R.Sink.seen c.tell_end-in-Trace.new.report) in
     let h : Happened (trace_plan c.in-Trace.steps c.in-Trace.t.now c.in-Trace.e.now (map string_bytes c.in-Trace.args.now) (c.args.first + 1)) s c.tell_end-in-Trace.result t = (end_of c.trace_command-end.result, m, c.trace_command-end.ensures, (_, c.tell_end-in-Trace.ensures, refl)) in
     answers_as _ _ c.args.first s _ t c.in-Trace.is h
+
+pub returns-in-Demo : goal.returns-in-Demo
+returns-in-Demo g c =
+    let s = world (g.F.Shelf.seen c.args.shelf.now) (g.I.Source.seen c.args.input.now) (g.O.Sink.seen c.args.out.now) (g.R.Sink.seen c.args.report.now) in
+    let m = world (g.F.Shelf.seen c.args.shelf.now) (g.I.Source.seen c.args.input.now) (g.O.Sink.seen c.demo_command.new.out) (g.R.Sink.seen c.args.report.now) in
+    let t = world (g.F.Shelf.seen c.args.shelf.now) (g.I.Source.seen c.args.input.now) (g.O.Sink.seen c.demo_command.new.out) (g.R.Sink.seen c.tell_end-in-Demo.new.report) in
+    let h : Happened (demo_plan c.in-Demo.count) s c.tell_end-in-Demo.result t = (end_of c.demo_command.result, m, c.demo_command.ensures s, (_, c.tell_end-in-Demo.ensures, refl)) in
+    answers_as _ _ c.args.first s _ t c.in-Demo.is h

@@ -1,0 +1,4 @@
+pub mod DemoRuns
+pub mod DemoPlan
+pub mod DemoFits
+pub mod DemoMeaning
