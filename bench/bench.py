@@ -71,6 +71,21 @@ def many_functions(count):
     return executable(calls + EXIT + bodies)[0]
 
 
+def backward_chain(blocks):
+    """A jump to the last of a row of jumps, each to the one before it, and a RET that faults: live registers go along the whole row."""
+    jumps = b"\xc3" + b"\xeb\xfd" + b"\xeb\xfc" * (blocks - 3)
+    return executable(b"\xe9" + word(len(jumps) - 2) + jumps)[0]
+
+
+def held_loads(blocks):
+    """Blocks that sum up 60 words, which only the way that no run takes still needs: all loads hold a place to the end of their block."""
+    size = 5 + 60 * 6 + 6
+    code_size = 5 + blocks * size + len(EXIT)
+    room = (START + 52 + 64 + code_size + 4095) // 4096 * 4096
+    block = b"\xb8" + word(0) + b"".join(b"\x03\x05" + word(room + 4 * k) for k in range(60)) + bytes.fromhex("85c9 7502 ebfe")
+    return executable(b"\xb9" + word(1) + block * blocks + EXIT, tail=4096)[0]
+
+
 # What is measured: its name, the unit, the sizes, how a size is made, and the words; what they need is made by the words before.
 LARGE = ["run", "--steps", "1", "E"]
 TABLES = [
@@ -86,6 +101,8 @@ TABLES = [
     ("merge, functions", "function", [250, 1000, 4000, 16000], many_functions, ["merge", "M", "E", "T", "T", "T"]),
     ("show, functions", "function", [250, 1000, 4000, 16000], many_functions, ["show", "E", "T"]),
     ("build, functions", "function", [250, 1000, 4000, 16000], many_functions, ["build", "N", "E", "T"]),
+    ("build, held loads", "block", [100, 400, 1600, 6400], held_loads, ["build", "N", "E", "T"]),
+    ("build, backward chain", "block", [1024, 4096, 16384, 65536], backward_chain, ["build", "N", "E", "T"]),
 ]
 
 

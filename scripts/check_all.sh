@@ -51,6 +51,7 @@ compare() {
         check_with 'cargo python3' "comparison with the reference program, stage $built_stage, seed $seed" \
             python3 "$copy/check/compare.py" --tool "$program" --stage "$built_stage" --commands "$built_commands" --count 60 --seed "$seed"
     done
+    check_with 'cargo python3' 'lines of demo, beside the reference program' scripts/compare_demo.sh "$program" "$copy" "$built_stage"
 }
 
 # The scripts for users, and the walk-through.

@@ -8,6 +8,7 @@
 #   where it is built, `build` with the traces and with the joined one writes the same file, and `run` of that file shows the same,
 #   also where the segments of the original in it may not be executed: every path of a traced run is recovered code;
 #   and every case over the file built with the trace of one case alone, most of whose paths leave for the original;
+#   a session that adds the traces and takes them away again writes what `build` does for those that are live;
 #   where the machine runs 32-bit executables, each of these files shows the same on the processor.
 # What is built stands in built.sh: a command of it that is missing fails. A case's status is a number, or `fault KIND`. Prints each failure, and last 'N passed, M failed'; status 1 on a failure.
 set -u
@@ -154,6 +155,22 @@ build_traced() {
     if cmp -s N J; then pass; else fail "$program: the joined trace gives another file"; fi
 }
 
+# A session in which the traces of all cases come, and go one after another, with a file after each: what `build` writes for those that are left.
+session_files() {
+    local traces=("${cases[@]/#/trace-}") last k
+    {
+        printf 'add %s\n' "${traces[@]}"
+        echo 'emit S0'
+        for ((k = 1; k <= ${#traces[@]}; k++)); do printf 'remove %d\nemit S%d\n' "$k" "$k"; done
+    } > script
+    last=$(timeout 300 "${tool[@]}" session E < script 2>&1 > /dev/null)
+    if [ "$last" = "lines $(wc -l < script)" ]; then pass; else fail "$program: session: $last"; fi
+    for ((k = 0; k <= ${#traces[@]}; k++)); do
+        check_build "$program: build with all traces but $k" B E "${traces[@]:$k}" || continue
+        if cmp -s B "S$k"; then pass; else fail "$program: after $k traces have gone, a session writes another file than build"; fi
+    done
+}
+
 # Each case of the program over one file. $2 says what it is, $3 how many steps more than the original it takes, or `any`
 # number of steps, also such as read undefined flags.
 run_cases() {
@@ -170,11 +187,12 @@ run_cases() {
 find_native "$programs/bin/hash"
 [ "$native_kind" != none ] || skip 'on the processor: this machine runs no 32-bit executable and has no qemu-i386'
 expects build0
-has_run=0 has_merge=0 has_trace=0 builds_traced=0
+has_run=0 has_merge=0 has_trace=0 builds_traced=0 has_session=0
 ! expects run || has_run=1
 ! expects merge || has_merge=1
 ! expects trace || has_trace=1
 ! expects build || builds_traced=1
+! expects session || has_session=1
 
 for binary in "$programs"/bin/*; do
     program=$(basename "$binary")
@@ -189,6 +207,7 @@ for binary in "$programs"/bin/*; do
     build_traced || continue
     run_cases N 'its recompiled file with traces' any
     check_coverage N
+    [ "$has_session" = 0 ] || session_files
     check_build "$program: build with one trace" O E "trace-${cases[0]}" && run_cases O 'its file with one trace' any
 done
 finish

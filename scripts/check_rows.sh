@@ -60,6 +60,26 @@ build_rows() {
     if cmp -s N1 -- -dash; then pass; else fail 'the file that is read is the file that is written: another file'; fi
 }
 
+# The demonstration: it calls the output alone.
+demo_rows() {
+    local number
+    for number in 1 1 000000000000000001; do
+        row_keeping 'demo with one function' 0 "$demo_1\\n" '' demo "$number"
+    done
+    row 'demo with two functions' 0 "$demo_2\\n" '' demo 2
+    row 'demo with seven functions' 0 "$demo_7\\n" '' demo 7
+    row 'demo with a thousand functions' 0 "$demo_1000\\n" '' demo 1000
+    for number in 0 1001 x +1 '' 0000000000000000001; do
+        row "demo $number" 1 '' 'usage 1\n' demo "$number"
+    done
+    row 'demo without a number' 1 '' 'usage 1\n' demo
+    row 'demo with a further word' 1 '' 'usage 2\n' demo 1 2
+    if [ -w /dev/full ]; then
+        "${tool[@]}" demo 1 > /dev/full 2> got.err
+        if [ $? = 3 ] && [ "$(cat got.err)" = 'outside output' ]; then pass; else fail "demo on a full output: $(cat got.err)"; fi
+    fi
+}
+
 # The first refusal of each file, with its place; nothing is stored.
 refusal_rows() {
     : > empty
@@ -268,17 +288,73 @@ show_rows() {
 traced_rows() {
     local line
     refused_traces build
-    line=$("${tool[@]}" build N2 X1 T1 2>&1)
-    if [ "$line" = 'built 5 697 8313' ]; then pass; else fail "build with a trace: $line"; fi
-    "${tool[@]}" run N2 > got.out 2> got.err
-    if [ "$(cat got.out)" = hi ] && [ "$(cat got.err)" = 'exit 0 steps 92 undefined 0' ]; then pass; else fail "run of the file with a trace: $(cat got.err)"; fi
-    row 'build with the trace twice' 0 '' 'built 5 697 8313\n' build N3 X1 T1 T1
+    row 'build with a trace' 0 '' "built $x1_built\\n" build N2 X1 T1
+    row 'run of the file with a trace' 0 'hi\n' "exit 0 steps $x1_steps undefined 0\\n" run N2
+    row 'build with the trace twice' 0 '' "built $x1_built\\n" build N3 X1 T1 T1
     if cmp -s N2 N3; then pass; else fail 'the trace twice gives another file'; fi
     native_row 'the file with a trace on the processor' N2
     command -v perl > /dev/null || { skip 'build with too many blocks or too much code: no perl, which makes large traces'; return; }
     executable wide "$(perl -e 'print "c3", "90" x 65540')"
     { trace_head 65537 wide; perl -e 'print pack("VV", 0x08048054, 0x08048055 + $_) for 0 .. 65536'; } > targets
     row 'build with too many blocks' 7 '' 'limit blocks 65536\n' build N4 wide targets
+}
+
+# Files of one trace each: constants that fold, and a block of 64 instructions without a transfer.
+small_rows() {
+    executable X2 '31c0 40 31db cd80'
+    row 'trace of constants' 0 '' 'exit 0 steps 4 undefined 0 edges 1\n' trace T2 X2
+    row 'build of constants' 0 '' "built $x2_built\\n" build N4 X2 T2
+    row 'run of the file of constants' 0 '' "exit 0 steps $x2_steps undefined 0\\n" run N4
+    executable nops "$(printf '90%.0s' {1..200}) $exit_code"
+    row 'trace of 200 NOPs' 0 '' 'exit 0 steps 203 undefined 0 edges 1\n' trace T2 nops
+    row 'build of 200 NOPs' 0 '' "built $nops_built\\n" build N4 nops T2
+    row 'run of the file of 200 NOPs' 0 '' "exit 0 steps $nops_steps undefined 0\\n" run N4
+}
+
+# A session on X1 over the lines of a script: NAME STATUS OUTPUT REPORT SCRIPT.
+session_row() {
+    printf '%b' "$5" > script
+    input=script
+    row "$1" "$2" "$3" "$4" session X1
+    input=/dev/null
+}
+
+session_rows() {
+    rm -f A B C
+    session_row 'traces come and go' 0 "emitted 0 5 8313 made 0\\nadded 1\\nemitted $x1_built made 5\\nremoved 1\\nemitted 0 5 8313 made 0\\n" \
+        'lines 5\n' 'emit A\nadd T1\nemit B\nremove 1\nemit C\n'
+    if cmp -s A N1 && cmp -s C N1 && cmp -s B N2; then pass; else fail 'a session emits other files than build writes'; fi
+    session_row 'a trace that two have' 2 "added 1\\nadded 2\\nremoved 1\\nemitted $x1_built made 5\\n" 'refused line 5 32 0\n' \
+        'add T1\nadd T1\nremove 1\nemit N3\nremove 1\n'
+    if cmp -s N3 N2; then pass; else fail 'an edge that another live trace has is gone'; fi
+    session_row 'nothing is compiled twice' 0 "added 1\\nemitted $x1_built made 5\\nemitted $x1_built made 0\\n" 'lines 4\n' 'add T1\n\nemit N3\nemit N3'
+    session_row 'no order' 2 '' 'refused line 1 31 0\n' 'drop 1\n'
+    session_row 'an order of 4201 bytes' 2 '' 'refused line 1 31 0\n' "add $(printf '%04197d' 0)\\n"
+    session_row 'a number that is not live' 2 '' 'refused line 2 32 0\n' '\nremove 0\n'
+    session_row 'a trace that is none' 2 '' 'refused line 2 21 0\n' '\nadd X1\n'
+    session_row 'a trace of another file' 2 '' 'refused line 1 22 8\n' 'add T9\n'
+    session_row 'a file that the session wrote is no trace' 2 'emitted 0 5 8313 made 0\n' 'refused line 2 21 0\n' 'emit N3\nadd N3\n'
+    session_row 'an absent trace' 3 'added 1\n' 'outside shelf\n' 'add T1\nadd absent\n'
+    session_row 'a long trace' 7 '' 'limit file 16777216\n' 'add long\n'
+    session_row 'no line' 0 '' 'lines 0\n' ''
+    row 'a session with a further word' 1 '' 'usage 2\n' session X1 F
+    row 'a session on an absent file' 3 '' 'outside shelf\n' session absent
+    input=/
+    row 'a script that cannot be read' 3 '' 'outside input\n' session X1
+    input=/dev/null
+    yes 'add T1' | head -n 4097 > script
+    "${tool[@]}" session X1 < script > got.out 2> got.err
+    if [ $? = 7 ] && [ "$(cat got.err)" = 'limit traces 4096' ] && [ "$(wc -l < got.out)" = 4096 ]; then pass; else fail "4097 traces: $(cat got.err)"; fi
+    head -c 1048576 /dev/zero | tr '\0' '\n' > script
+    "${tool[@]}" session X1 < script > got.out 2> got.err
+    if [ $? = 0 ] && [ "$(cat got.err)" = 'lines 1048576' ]; then pass; else fail "1048576 lines: $(cat got.err)"; fi
+    printf x >> script
+    "${tool[@]}" session X1 < script > got.out 2> got.err
+    if [ $? = 7 ] && [ "$(cat got.err)" = 'limit lines 1048576' ]; then pass; else fail "1048577 lines: $(cat got.err)"; fi
+    [ -e large ] || return 0
+    yes 'add large' | head -n 9 > script
+    "${tool[@]}" session X1 < script > got.out 2> got.err
+    if [ $? = 7 ] && [ "$(cat got.err)" = 'limit edges 16777216' ] && [ "$(wc -l < got.out)" = 8 ]; then pass; else fail "too many edges in a session: $(cat got.err)"; fi
 }
 
 # hi and status 0 on the processor or its emulator.
@@ -288,6 +364,15 @@ native_row() {
     run_natively "${native[@]}" "./$2"
     if [ "$status" = 0 ] && [ "$(cat got.out)" = hi ] && [ ! -s got.err ]; then pass; else fail "$1: status $status, $(cat got.out)"; fi
 }
+
+# What is built of the small files with their traces, and the steps that the written files take.
+x1_built='5 795 8313' x1_steps=104
+x2_built='2 420 8283' x2_steps=56
+nops_built='5 385 8488' nops_steps=54
+demo_1='demo 1 file 137 blocks 7 code 1310 image 8329 out 588139be 588139be steps 15 184'
+demo_2='demo 2 file 153 blocks 10 code 1904 image 8345 out 6518aedc 6518aedc steps 18 248'
+demo_7='demo 7 file 233 blocks 25 code 5104 image 12521 out d3eb52cc d3eb52cc steps 43 608'
+demo_1000='demo 1000 file 16121 blocks 3004 code 628917 image 651001 out a7670ab2 a7670ab2 steps 4499 70068'
 
 executable X1 "$(hi_code 0x08048000)"
 executable zero "$exit_code"
@@ -309,7 +394,7 @@ if expects run; then
 fi
 if expects trace; then
     trace_rows
-    if expects build; then traced_rows; fi
+    if expects build; then traced_rows; small_rows; fi
 fi
 if expects merge; then
     if command -v perl > /dev/null; then
@@ -322,9 +407,10 @@ fi
 if expects show; then
     show_rows
 fi
+if expects demo; then
+    demo_rows
+fi
 if expects session; then
-    printf 'add T1\nadd T1\nremove 1\nemit N3\nremove 1\n' > script
-    "${tool[@]}" session X1 < script > got.out 2> got.err
-    if [ $? = 2 ] && [ "$(cat got.err)" = 'refused line 5 32 0' ] && cmp -s N2 N3; then pass; else fail "session: $(cat got.err)"; fi
+    session_rows
 fi
 finish
