@@ -63,6 +63,7 @@ does_when_built './N < two.txt' '0 6 23'
 does_when_built './N o < one.txt' 6
 does 'cc32 -o greet greet.c' "none of its $number instructions is outside the subset"
 does 'echo Ada | br run greet "Who is there"' 'Who is there\? Hello, Ada.' "exit 0 steps $number undefined 0"
+does 'br demo 1' "demo 1 file 137 blocks 7 code $number image $number out 588139be 588139be steps 15 $number"
 
 # The page has these commands and no other.
 sed -n '/^## A first use/,/^## /s/^\$ //p' "$top/docs/USING.md" > "$folder/.page"
