@@ -5,7 +5,7 @@ use Rattle.br_outside.specs.declared.errors.ShelfError.TheVariants as shelf_erro
 use Rattle.br_outside.specs.declared.errors.StoreError.TheVariants as store_errors
 use Rattle.br_outside.specs.declared.errors.SinkError.TheVariants as sink_errors
 use Rattle.top_plan.specs.World.{World, on_shelf, on_out, faults_of}
-use Rattle.top_plan.specs.Plan.{Plan, Ends, Fetches, Stores, Prints, Turns, Went, CallFails, GoesOn, FailsInput, FailsOutput, FailsReport, WantsMemory}
+use Rattle.top_plan.specs.Plan.{Plan, Ends, Fetches, Stores, Prints, Turns, Script, Went, CallFails, GoesOn, FailsInput, FailsOutput, FailsReport, WantsMemory}
 use Rattle.top_plan.specs.Texts.{WorkEnd}
 use Rattle.top_plan.specs.declared.ends.Halt.TheVariants.{Because, Outside, Memory}
 use Rattle.top_plan.specs.declared.ends.Cause.TheVariants.{Limited}
@@ -13,7 +13,7 @@ use Rattle.top_plan.specs.declared.ends.Object.{Object}
 use Rattle.top_plan.specs.declared.ends.Object.TheVariants as objects
 use Rattle.top_plan.specs.declared.ends.Limit.TheVariants as limits
 use Rattle.top_plan.proofs.Kept.{IsKept, same_kept, then_kept, shelf_kept, out_kept, rises, no_fault}
-use Rattle.top_plan.proofs.TurnsKept.{turned_kept, input_fails_kept, output_fails_kept, report_fails_kept, runs_out_kept}
+use Rattle.top_plan.proofs.TurnsKept.{turned_kept, input_fails_kept, output_fails_kept, report_fails_kept, runs_out_kept, ahead_kept}
 
 -- a step to where the run ends
 kept_at : (s m t : World) → IsKept s m → t ≡ m → IsKept s t
@@ -43,6 +43,7 @@ kept (Turns turn next) s o t (inr (left, told, FailsInput h)) = input_fails_kept
 kept (Turns turn next) s o t (inr (left, told, FailsOutput h)) = output_fails_kept (turn left) s o t h
 kept (Turns turn next) s o t (inr (left, told, FailsReport h)) = report_fails_kept (turn left) s o t h
 kept (Turns turn next) s o t (inr (left, told, WantsMemory h)) = runs_out_kept (turn left) left s o t h
+kept (Script within) s o t (m, went, ahead) = then_kept s m t (kept within s o m went) (ahead_kept m t ahead)
 
 -- the count of this object rose, after a step or at the end
 abbrev pub Risen : Object → World → World → Type 0
@@ -93,3 +94,4 @@ caused (Turns turn next) s o t x is (inr (left, told, FailsInput h)) = names x o
 caused (Turns turn next) s o t x is (inr (left, told, FailsOutput h)) = names x objects.Output s o t is h.ends h.fails.rose
 caused (Turns turn next) s o t x is (inr (left, told, FailsReport h)) = names x objects.Report s o t is h.ends h.fails.rose
 caused (Turns turn next) s o t x is (inr (left, told, WantsMemory h)) = let m : o ≡ Err Memory = h.ends in cc
+caused (Script within) s o t x is (m, went, ahead) = risen_still x s m t (ahead_kept m t ahead) (caused within s o m x is went)

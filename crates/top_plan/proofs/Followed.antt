@@ -2,22 +2,23 @@
 use Rattle.std.proofs.Common.{◌≡◌, ◌⊎◌, ◌<◌, ◌≤◌, ◌+◌, nat_le, ℕ, List, [], ◌∷◌, ◌++◌, length, drop, Option, Some, None, Ok, Err, IsTrue, IfSome, refl, sym, ◌∙◌, ap, subst, inl, inr, arith}
 use Rattle.std.specs.Option.{option_map}
 use Rattle.std.proofs.lemmas.Bool.{le-leb, lt-leb, cond-true, cond-false}
+use Rattle.std.proofs.lemmas.List.{drop-drop}
 use Rattle.br_outside.specs.Files.{Files, put}
 use Rattle.br_outside.specs.Outside.{ShelfView, StreamView, Rose, Fetched, Stored}
 use Rattle.br_outside.specs.declared.errors.ShelfError.TheVariants as shelf_errors
 use Rattle.br_outside.specs.declared.errors.StoreError.TheVariants as store_errors
 use Rattle.br_outside.specs.declared.errors.SinkError.TheVariants as sink_errors
 use Rattle.top_plan.specs.World.{World, on_shelf, on_out, faults_of, calm_of}
-use Rattle.top_plan.specs.Plan.{Plan, Ends, Fetches, Stores, Prints, Turned, Turns, Went, IsTurned, AfterTurn, GoesOn, FailsInput, FailsOutput, FailsReport, WantsMemory}
+use Rattle.top_plan.specs.Plan.{Plan, Ends, Fetches, Stores, Prints, Turned, Turns, Script, Went, IsAhead, IsTurned, AfterTurn, GoesOn, FailsInput, FailsOutput, FailsReport, WantsMemory}
 use Rattle.top_plan.specs.Texts.{WorkEnd}
 use Rattle.top_plan.specs.declared.ends.Halt.TheVariants.{Because, Outside, Memory}
 use Rattle.top_plan.specs.declared.ends.Cause.TheVariants.{Limited}
 use Rattle.top_plan.specs.declared.ends.Object.{Object}
 use Rattle.top_plan.specs.declared.ends.Object.TheVariants as objects
 use Rattle.top_plan.specs.declared.ends.Limit.TheVariants as limits
-use Rattle.top_plan.specs.Expected.{Store, Ending, ends_with, after_fetch, turned_before, expected, NoFiles, NoInput, AllTurns, IsSparing, LeavesBut, IsTold, HasFailed}
-use Rattle.top_plan.proofs.Kept.{IsKept, nothing, two_texts, shelf_kept, out_kept, rises, fails_later, no_fault}
-use Rattle.top_plan.proofs.TurnsKept.{turned_kept}
+use Rattle.top_plan.specs.Expected.{Store, Ending, ends_with, after_fetch, turned_before, scripted, expected, NoFiles, NoInput, AllTurns, IsSparing, LeavesBut, IsTold, HasFailed}
+use Rattle.top_plan.proofs.Kept.{IsKept, nothing, two_texts, shelf_kept, out_kept, rises, fails_later, failed_still, no_fault}
+use Rattle.top_plan.proofs.TurnsKept.{turned_kept, ahead_kept}
 use Rattle.top_plan.proofs.Unread.{input_stays, leaves_all}
 
 -- a step of a run: the files, the input left, and what it printed and reported
@@ -176,6 +177,26 @@ turn_follows d q files left s o t has shelf sparing then (FailsOutput h) = inr (
 turn_follows d q files left s o t has shelf sparing then (FailsReport h) = inr (inl (objects.Report, h.ends, record { rose = h.fails.rose; loud = h.fails.uncalm }))
 turn_follows d q files left s o t has shelf sparing then (WantsMemory h) = inl h.ends
 
+-- ---- a script
+
+-- a back part of what is left, and some of it is taken ahead
+pub ahead_of : (more : ℕ) (left : List ℕ) (m t : World) (h : IsAhead m t) → m.input.bytes ≡ Some (drop more left) → t.input.bytes ≡ Some (drop (more + h.ahead) left)
+ahead_of more left m t h has = h.input ∙ (ap (option_map (drop h.ahead)) has ∙ ap Some (drop-drop h.ahead more left))
+
+script_follows : (files : Files) (left : List ℕ) (e : Ending) (s m : World) (o : WorkEnd) (t : World) → IsAhead m t → Follows files left e s o m → Follows files left (scripted e) s o t
+script_follows files left e s m o t h (inl memory) = inl memory
+script_follows files left e s m o t h (inr (inl (x, is, failed))) = inr (inl (x, is, failed_still x s m t (ahead_kept m t h) failed))
+script_follows files left e s m o t h (inr (inr done)) =
+    let Q : ShelfView → Type 0 = λ v. Rose s.shelf.faults v.faults in
+    inr (inr (record {
+      ends = done.ends;
+      shelf = λ told. ap (λ v. v.files) h.shelf ∙ done.shelf told;
+      input = λ has. let r = done.input has in (r.0 + h.ahead, omega (arith, r.1, h.few), ahead_of r.0 e.left m t h r.2);
+      out = ap (λ v. v.bytes) h.out ∙ done.out;
+      report = ap (λ v. v.bytes) h.report ∙ done.report;
+      rose = λ f. subst Q (sym h.shelf) (done.rose f);
+    }))
+
 pub follows : (p : Plan) (files : Files) (left : List ℕ) (s : World) (o : WorkEnd) (t : World) → IsSparing p → IsTold p files left s → Went p s o t → Follows files left (expected p files left) s o t
 unfolding Went expected NoFiles NoInput AllTurns
 follows (Ends end) files left s o t sparing told (inl out) = inl out.0
@@ -212,3 +233,5 @@ follows (Turns turn next) files left s o t sparing told (inr (left', tells, went
     let P : List ℕ → Type 0 = λ l. AfterTurn (turn l) l (Went (next l)) s o t in
     turn_follows (turn left) (next left) files left s o t has (either told.shelf (λ a. a left) (λ b. b)) (sparing left).1
     (λ m told went. follows (next left) files (turn left).left m o t (sparing left).0 told went) (subst P (sym same) went)
+follows (Script within) files left s o t sparing told (m, went, ahead) =
+    script_follows files left (expected within files left) s m o t ahead (follows within files left s o m sparing (record { shelf = told.shelf; input = inr (asked told.input (λ a. a)) }) went)

@@ -8,10 +8,10 @@ use Rattle.br_outside.specs.declared.errors.ShelfError.TheVariants as shelf_erro
 use Rattle.br_outside.specs.declared.errors.StoreError.TheVariants as store_errors
 use Rattle.br_outside.specs.declared.errors.SinkError.TheVariants as sink_errors
 use Rattle.top_plan.specs.World.{World, on_shelf, on_out}
-use Rattle.top_plan.specs.Plan.{Plan, Ends, Fetches, Stores, Prints, Turned, Turns, Went, IsTurned, AfterTurn, GoesOn, FailsInput, FailsOutput, FailsReport, WantsMemory}
+use Rattle.top_plan.specs.Plan.{Plan, Ends, Fetches, Stores, Prints, Turned, Turns, Script, Went, IsAhead, IsTurned, AfterTurn, GoesOn, FailsInput, FailsOutput, FailsReport, WantsMemory}
 use Rattle.top_plan.specs.Texts.{WorkEnd, end_line, end_text, end_status, halt_text}
 use Rattle.top_plan.specs.Happened.{Reported, Happened}
-use Rattle.top_plan.specs.Expected.{Ending, stored_before, printed_before, turned_before, expected, NoFiles, NoInput, AllTurns, IsSparing, IsTold}
+use Rattle.top_plan.specs.Expected.{Ending, stored_before, printed_before, turned_before, scripted, expected, NoFiles, NoInput, AllTurns, IsSparing, IsTold}
 use Rattle.top_plan.specs.Partial.{WroteFront, StoredFront, LeftBack, Interrupts, ReportedFront, IsFront, IsPartial, Uses, IsTaking, IsOrderly}
 use Rattle.top_plan.specs.declared.ends.Halt.{Halt}
 use Rattle.top_plan.specs.declared.ends.Halt.TheVariants.{Outside, Memory}
@@ -20,7 +20,7 @@ use Rattle.top_plan.proofs.Telling.{IsTelling, telling, telling_kept}
 use Rattle.top_plan.proofs.TurnsOf.{sparing_of, taking_of}
 use Rattle.top_plan.proofs.TurnsKept.{turned_kept}
 use Rattle.top_plan.proofs.Unread.{input_stays, leaves_all, after_each}
-use Rattle.top_plan.proofs.Followed.{Follows, follows, told_to, fetch_ok, asked, either, stored_files, input_after, used_alone}
+use Rattle.top_plan.proofs.Followed.{Follows, follows, told_to, fetch_ok, asked, either, stored_files, input_after, used_alone, ahead_of}
 use Rattle.top_plan.proofs.Fronts.{wrote_none, wrote_after, wrote_before, gave_front, stored_none, stored_later, stored_still}
 
 -- a run up to its last line
@@ -43,6 +43,7 @@ no_longer (Turns turn next) files left taking =
     let u : Uses (turn left) left = (taking left).1 in
     let a : length (turn left).left ≡ length left - u.used = ap length u.rest ∙ length-drop u.used left in
     omega (arith, a, no_longer (next left) files (turn left).left (taking left).0)
+no_longer (Script within) files left taking = no_longer within files left taking
 
 left_still : (left : List ℕ) (e : Ending) (s t : World) → length e.left ≤ length left → t.input.bytes ≡ s.input.bytes → s.input.bytes ≡ Some left → LeftBack left e t.input.bytes
 left_still left e s t few same has = (0, same ∙ has, omega arith)
@@ -197,6 +198,20 @@ turn_cut d q files left s o t has shelf u sparing few then (WantsMemory h) =
     input_fails files left d (expected q files d.left) s t (λ has. taken_most d left (expected q files d.left) s t h.taken u few h.few (told_to s.input.bytes left (λ b. t.input.bytes ≡ Some (drop h.taken left)) has h.input.bytes))
     h.shelf (h.printed, h.out) (h.reported, h.report)
 
+-- ---- a script
+
+script_cut : (files : Files) (left : List ℕ) (e : Ending) (s m t : World) → IsAhead m t → IsCut files left e s m → IsCut files left (scripted e) s t
+script_cut files left e s m t h cut = record {
+  shelf = λ told. stored_still e.stored files s m t h.shelf (cut.shelf told);
+  input = λ has.
+      let r : LeftBack left e m.input.bytes = cut.input has in
+      let a : length (drop r.0 left) ≡ length left - r.0 = length-drop r.0 left in
+      let b : length (drop (r.0 + h.ahead) left) ≡ length left - (r.0 + h.ahead) = length-drop (r.0 + h.ahead) left in
+      (r.0 + h.ahead, ahead_of r.0 left m t h r.1, omega (arith, a, b, r.2, h.few));
+  out = (cut.out.0, ap (λ v. v.bytes) h.out ∙ cut.out.1);
+  report = (cut.report.0, ap (λ v. v.bytes) h.report ∙ cut.report.1);
+}
+
 -- ---- the run
 
 -- the content was fetched, and the run goes on
@@ -243,6 +258,8 @@ cut (Turns turn next) files left s o t sparing taking told (inr (left', tells, w
     let P : List ℕ → Type 0 = λ l. AfterTurn (turn l) l (Went (next l)) s o t in
     turn_cut (turn left) (next left) files left s o t has (either told.shelf (λ a. a left) (λ b. b)) (taking left).1 (sparing left).1 (no_longer (next left) files (turn left).left (taking left).0)
     (λ m told went. cut (next left) files (turn left).left m o t (sparing left).0 (taking left).0 told went) (subst P (sym same) went)
+cut (Script within) files left s o t sparing taking told (m, went, ahead) =
+    script_cut files left (expected within files left) s m t ahead (cut within files left s o m sparing taking (record { shelf = told.shelf; input = inr (asked told.input (λ a. a)) }) went)
 
 -- ---- the last line
 

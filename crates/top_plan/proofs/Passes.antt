@@ -1,11 +1,12 @@
 -- Runs that pass through the nodes of a plan, whatever the plan.
-use Rattle.std.proofs.Common.{◌≡◌, ℕ, List, Result, Ok, Err, IsErrAnd, refl, sym, subst, inl, inr}
+use Rattle.std.proofs.Common.{◌≡◌, ℕ, List, drop, Option, Some, None, Result, Ok, Err, IsErrAnd, refl, sym, subst, inl, inr, arith}
+use Rattle.std.specs.Option.{option_map}
 use Rattle.br_outside.specs.Outside.{ShelfView, StreamView, Fetched, Stored, Gave}
 use Rattle.br_outside.specs.declared.errors.ShelfError.{ShelfError}
 use Rattle.br_outside.specs.declared.errors.StoreError.{StoreError}
 use Rattle.br_outside.specs.declared.errors.SinkError.{SinkError}
 use Rattle.top_plan.specs.World.{World, on_shelf, on_out}
-use Rattle.top_plan.specs.Plan.{Plan, Ends, Fetches, Stores, Prints, Turns, Went, AfterFetch, AfterStore, AfterGive, planned_end}
+use Rattle.top_plan.specs.Plan.{Plan, Ends, Fetches, Stores, Prints, Turns, Script, IsAhead, Went, AfterFetch, AfterStore, AfterGive, planned_end}
 use Rattle.top_plan.specs.Texts.{Finished, WorkEnd}
 use Rattle.top_plan.specs.declared.ends.Halt.{Halt}
 use Rattle.top_plan.specs.declared.ends.Halt.TheVariants.{Because, Outside, Memory}
@@ -27,6 +28,19 @@ pub printed : (text : List ℕ) (next : Plan) (s : World) (v : StreamView) (answ
 unfolding Went
 printed text next s v answer o t was after = inr (v, answer, was, after)
 
+-- nothing was taken ahead
+pub not_ahead : (s : World) → IsAhead s s
+not_ahead s = record { shelf = refl; ahead = 0; few = omega arith; input = all_left s.input.bytes; steady = record { calm = refl; same = refl }; out = refl; report = refl }
+  where
+    all_left : (b : Option (List ℕ)) → b ≡ option_map (drop 0) b
+    all_left None = refl
+    all_left (Some bytes) = refl
+
+-- a script was run, and the input was taken ahead
+pub scripted : (within : Plan) (s m : World) (o : WorkEnd) (t : World) → Went within s o m → IsAhead m t → Went (Script within) s o t
+unfolding Went
+scripted within s m o t went ahead = (m, went, ahead)
+
 -- memory may be wanting before any call
 pub runs_out : (plan : Plan) (s : World) → Went plan s (Err Memory) s
 unfolding Went
@@ -35,6 +49,7 @@ runs_out (Fetches name limit next) s = inl (refl, refl)
 runs_out (Stores name bytes next) s = inl (refl, refl)
 runs_out (Prints text next) s = inl (refl, refl)
 runs_out (Turns turn next) s = inl (refl, refl)
+runs_out (Script within) s = (s, runs_out within s, not_ahead s)
 
 -- the end is reached
 pub ended : (end : Result Finished Cause) (s : World) → Went (Ends end) s (planned_end end) s

@@ -5,7 +5,7 @@ use Rattle.br_outside.specs.declared.errors.ShelfError.TheVariants as shelf_erro
 use Rattle.br_outside.specs.declared.errors.StoreError.TheVariants as store_errors
 use Rattle.br_outside.specs.declared.errors.SinkError.TheVariants as sink_errors
 use Rattle.top_plan.specs.World.{World, on_shelf, on_out, on_report, faults_of}
-use Rattle.top_plan.specs.Plan.{Plan, Ends, Fetches, Stores, Prints, Turned, Turns, Went, CallFails, IsTurned, InputFails, OutputFails, ReportFails, TurnRunsOut, GoesOn, FailsInput, FailsOutput, FailsReport, WantsMemory, planned_end}
+use Rattle.top_plan.specs.Plan.{Plan, Ends, Fetches, Stores, Prints, Turned, Turns, Script, Went, CallFails, IsAhead, IsTurned, InputFails, OutputFails, ReportFails, TurnRunsOut, GoesOn, FailsInput, FailsOutput, FailsReport, WantsMemory, planned_end}
 use Rattle.top_plan.specs.Texts.{Finished, WorkEnd}
 use Rattle.top_plan.specs.Steady.{NoneRose, OnlyRose}
 use Rattle.top_plan.specs.declared.ends.Halt.TheVariants.{Because, Outside, Memory}
@@ -63,6 +63,13 @@ steady_later (Err (Because cause)) s m t none rest = λ x. rest x ∙ none x
 steady_later (Err (Outside x)) s m t none rest = one_later x s m t none rest
 steady_later (Err Memory) s m t none rest = λ x. rest x ∙ none x
 
+-- steps behind it
+steady_still : (o : WorkEnd) (s m t : World) → WorkSteady o s m → NoneRose m t → WorkSteady o s t
+steady_still (Ok done) s m t first none = λ x. none x ∙ first x
+steady_still (Err (Because cause)) s m t first none = λ x. none x ∙ first x
+steady_still (Err (Outside x)) s m t first none = one_still x s m t first none
+steady_still (Err Memory) s m t first none = λ x. none x ∙ first x
+
 -- an end after steps that did not fail
 quiet_end : (o e : WorkEnd) (s m t : World) → o ≡ e → t ≡ m → WorkSteady e s m → WorkSteady o s t
 quiet_end o e s m t is same h =
@@ -88,6 +95,9 @@ all_same s m shelf input out report = elim [ objects.Shelf ↦ ap (λ v. v.fault
 
 turned_same : (d : Turned) (s m : World) → IsTurned d s m → NoneRose s m
 turned_same d s m h = all_same s m h.shelf h.input.steady.same h.out.steady.same h.report.steady.same
+
+ahead_same : (m t : World) → IsAhead m t → NoneRose m t
+ahead_same m t h = all_same m t h.shelf h.steady.same (ap (λ v. v.faults) h.out) (ap (λ v. v.faults) h.report)
 
 input_rose : (d : Turned) (left : List ℕ) (s : World) (o : WorkEnd) (t : World) → InputFails d left s o t → WorkSteady o s t
 input_rose d left s o t h = quiet_end o (Err (Outside objects.Input)) s t t h.ends refl (record {
@@ -135,3 +145,4 @@ steadied (Turns turn next) s o t (inr (left, told, FailsInput h)) = input_rose (
 steadied (Turns turn next) s o t (inr (left, told, FailsOutput h)) = output_rose (turn left) s o t h
 steadied (Turns turn next) s o t (inr (left, told, FailsReport h)) = report_rose (turn left) s o t h
 steadied (Turns turn next) s o t (inr (left, told, WantsMemory h)) = turn_wants (turn left) left s o t h
+steadied (Script within) s o t (m, went, ahead) = steady_still o s m t (steadied within s o m went) (ahead_same m t ahead)

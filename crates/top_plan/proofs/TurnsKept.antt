@@ -1,11 +1,11 @@
--- What a turn keeps.
+-- What a turn keeps, and what input that is taken ahead does.
 use Rattle.std.proofs.Common.{◌≡◌, ◌≤◌, ℕ, List, [], ◌++◌, take, refl, sym, ◌∙◌, ap, subst, arith}
 use Rattle.std.specs.Option.{option_map}
 use Rattle.br_outside.specs.Outside.{ShelfView, StreamView}
 use Rattle.br_outside.specs.Streams.{Steady, Fails}
 use Rattle.top_plan.specs.World.{World}
 use Rattle.top_plan.specs.Texts.{WorkEnd}
-use Rattle.top_plan.specs.Plan.{Turned, IsTurned, InputFails, OutputFails, ReportFails, TurnRunsOut}
+use Rattle.top_plan.specs.Plan.{Turned, IsTurned, InputFails, OutputFails, ReportFails, TurnRunsOut, IsAhead}
 use Rattle.top_plan.specs.declared.ends.Object.TheVariants as objects
 use Rattle.top_plan.proofs.Kept.{IsKept, nothing}
 
@@ -48,3 +48,6 @@ report_fails_kept d s o t h = all_kept s t (take h.written d.reported) h.shelf (
 
 pub runs_out_kept : (d : Turned) (left : List ℕ) (s : World) (o : WorkEnd) (t : World) → TurnRunsOut d left s o t → IsKept s t
 runs_out_kept d left s o t h = all_kept s t (take h.reported d.reported) h.shelf (steady_holds s.input t.input h.input.steady) (steady_holds s.out t.out h.out_steady) (steady_holds s.report t.report h.report_steady) h.report
+
+pub ahead_kept : (m t : World) → IsAhead m t → IsKept m t
+ahead_kept m t h = all_kept m t [] h.shelf (steady_holds m.input t.input h.steady) (same_holds m.out t.out h.out) (same_holds m.report t.report h.report) (still m t h.report)

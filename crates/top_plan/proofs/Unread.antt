@@ -5,7 +5,7 @@ use Rattle.br_outside.specs.declared.errors.ShelfError.TheVariants as shelf_erro
 use Rattle.br_outside.specs.declared.errors.StoreError.TheVariants as store_errors
 use Rattle.br_outside.specs.declared.errors.SinkError.TheVariants as sink_errors
 use Rattle.top_plan.specs.World.{World, on_shelf, on_out}
-use Rattle.top_plan.specs.Plan.{Plan, Ends, Fetches, Stores, Prints, Turns, Went}
+use Rattle.top_plan.specs.Plan.{Plan, Ends, Fetches, Stores, Prints, Turns, Script, Went}
 use Rattle.top_plan.specs.Texts.{WorkEnd}
 use Rattle.top_plan.specs.Expected.{Ending, ends_with, after_fetch, expected, NoInput}
 use Rattle.top_plan.specs.declared.ends.Halt.TheVariants.{Because}
@@ -31,6 +31,7 @@ input_stays (Prints text next) s o t quiet (inr (v, Ok u, was, went)) = input_st
 input_stays (Prints text next) s o t quiet (inr (v, Err sink_errors.Failed, was, went)) = ap (λ w. w.input) went.1
 input_stays (Prints text next) s o t quiet (inr (v, Err sink_errors.Memory, was, went)) = ap (λ w. w.input) went.1
 input_stays (Turns turn next) s o t quiet went = absurd quiet
+input_stays (Script within) s o t quiet went = absurd quiet
 
 -- what comes of a fetch: what is behind it, or an end
 pub after_each : (P : Ending → Type 0) (limit : ℕ) (next : List ℕ → Ending) (files : Files) (left : List ℕ) → ((bytes : List ℕ) → P (next bytes)) → ((end : WorkEnd) → P (ends_with end files left)) → (c : Option (List ℕ)) → P (after_fetch limit next files left c)
@@ -49,3 +50,4 @@ leaves_all (Fetches name limit next) files left quiet = after_each (λ e. e.left
 leaves_all (Stores name bytes next) files left quiet = leaves_all next (put name (Some bytes) files) left quiet
 leaves_all (Prints text next) files left quiet = leaves_all next files left quiet
 leaves_all (Turns turn next) files left quiet = absurd quiet
+leaves_all (Script within) files left quiet = absurd quiet

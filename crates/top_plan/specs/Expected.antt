@@ -5,7 +5,8 @@ use Rattle.std.specs.Option.{option_map}
 use Rattle.br_outside.specs.Files.{Files, put}
 use Rattle.br_outside.specs.Outside.{Rose}
 use Rattle.top_plan.specs.World.{World, faults_of, calm_of}
-use Rattle.top_plan.specs.Plan.{Plan, Ends, Fetches, Stores, Prints, Turned, Turns, planned_end}
+use Rattle.top_plan.specs.declared.pieces.TheConstants.{PIECE_LENGTH}
+use Rattle.top_plan.specs.Plan.{Plan, Ends, Fetches, Stores, Prints, Turned, Turns, Script, planned_end}
 use Rattle.top_plan.specs.Texts.{WorkEnd, end_text, end_status, object_text}
 use Rattle.top_plan.specs.declared.ends.Halt.TheVariants.{Because, Outside}
 use Rattle.top_plan.specs.declared.ends.Cause.TheVariants.{Limited}
@@ -51,6 +52,10 @@ printed_before text e = record e { printed = text ++ e.printed }
 abbrev pub turned_before : Turned → Ending → Ending
 turned_before d e = record e { spare = d.spare + e.spare; printed = d.printed ++ e.printed; reported = d.reported ++ e.reported }
 
+-- within a script
+abbrev pub scripted : Ending → Ending
+scripted e = record e { spare = e.spare + PIECE_LENGTH }
+
 -- what the plan comes to over these files, with this input left
 unfoldable pub expected : Plan → Files → List ℕ → Ending
 expected (Ends end) files left = ends_with (planned_end end) files left
@@ -58,6 +63,7 @@ expected (Fetches name limit next) files left = after_fetch limit (λ bytes. exp
 expected (Stores name bytes next) files left = stored_before name bytes (expected next (put name (Some bytes) files) left)
 expected (Prints text next) files left = printed_before text (expected next files left)
 expected (Turns turn next) files left = turned_before (turn left) (expected (next left) files (turn left).left)
+expected (Script within) files left = scripted (expected within files left)
 
 -- the plan asks nothing of the shelf
 unfoldable pub NoFiles : Plan → Type 0
@@ -66,6 +72,7 @@ NoFiles (Fetches name limit next) = ⊥
 NoFiles (Stores name bytes next) = ⊥
 NoFiles (Prints text next) = NoFiles next
 NoFiles (Turns turn next) = (left : List ℕ) → NoFiles (next left)
+NoFiles (Script within) = NoFiles within
 
 -- the plan asks nothing of the input
 unfoldable pub NoInput : Plan → Type 0
@@ -74,6 +81,7 @@ NoInput (Fetches name limit next) = (bytes : List ℕ) → NoInput (next bytes)
 NoInput (Stores name bytes next) = NoInput next
 NoInput (Prints text next) = NoInput next
 NoInput (Turns turn next) = ⊥
+NoInput (Script within) = ⊥
 
 -- each turn of the plan is so, by what it does, what the input has left before it, and the plan behind it
 unfoldable pub AllTurns : (Turned → List ℕ → Plan → Type 0) → Plan → Type 0
@@ -82,6 +90,7 @@ AllTurns P (Fetches name limit next) = (bytes : List ℕ) → AllTurns P (next b
 AllTurns P (Stores name bytes next) = AllTurns P next
 AllTurns P (Prints text next) = AllTurns P next
 AllTurns P (Turns turn next) = (left : List ℕ) → AllTurns P (next left) × P (turn left) left (next left)
+AllTurns P (Script within) = AllTurns P within
 
 -- A turn after which more of the input may be taken than it uses is the last one that reads.
 abbrev pub IsSparing : Plan → Type 0

@@ -1,5 +1,6 @@
 -- A command as the calls that it makes of the outside, in order, and how a run goes through it.
 use Rattle.std.specs.Prelude.{◌≡◌, ◌⊎◌, ◌<◌, ◌≤◌, ℕ, List, [], take, drop, Result, Ok, Err}
+use Rattle.std.specs.Option.{option_map}
 use Rattle.br_outside.specs.Outside.{ShelfView, StreamView, Fetched, Stored, Gave}
 use Rattle.br_outside.specs.declared.errors.ShelfError.{ShelfError}
 use Rattle.br_outside.specs.declared.errors.ShelfError.TheVariants as shelf_errors
@@ -10,6 +11,7 @@ use Rattle.br_outside.specs.declared.errors.SinkError.TheVariants as sink_errors
 use Rattle.br_outside.specs.Streams.{Steady, Fails, Tells, HasLeft, WasGiven, Leaves, Gains}
 use Rattle.top_plan.specs.World.{World, on_shelf, on_out}
 use Rattle.top_plan.specs.Texts.{Finished, WorkEnd}
+use Rattle.top_plan.specs.declared.pieces.TheConstants.{PIECE_LENGTH}
 use Rattle.top_plan.specs.declared.ends.Halt.TheVariants.{Because, Outside, Memory}
 use Rattle.top_plan.specs.declared.ends.Cause.{Cause}
 use Rattle.top_plan.specs.declared.ends.Cause.TheVariants.{Limited}
@@ -29,13 +31,14 @@ pub record Turned : Type 0 where
   pub spare : ℕ
 
 -- The work ends; or a file is fetched or stored, a text is printed at once, or a turn reads, prints and reports by what the
--- input has left; and the work goes on.
+-- input has left; and the work goes on. The turns within a script may be read from bytes that were taken ahead of them.
 pub data Plan : Type 0 where
   Ends : Result Finished Cause → Plan
   Fetches : (name : List ℕ) (limit : ℕ) → (List ℕ → Plan) → Plan
   Stores : (name bytes : List ℕ) → Plan → Plan
   Prints : (text : List ℕ) → Plan → Plan
   Turns : (List ℕ → Turned) → (List ℕ → Plan) → Plan
+  Script : Plan → Plan
 
 -- a run: from a world to an end and a world
 abbrev pub Run : Type 1
@@ -136,6 +139,18 @@ pub data AfterTurn (d : Turned) (left : List ℕ) (next : Run) (s : World) (o : 
   FailsReport : ReportFails d s o t → AfterTurn d left next s o t
   WantsMemory : TurnRunsOut d left s o t → AfterTurn d left next s o t
 
+-- ---- a script
+
+-- of the input, up to a piece more was taken, and nothing else was done
+pub record IsAhead (m t : World) : Type 0 where
+  pub shelf : t.shelf ≡ m.shelf
+  pub ahead : ℕ
+  pub few : ahead ≤ PIECE_LENGTH
+  pub input : t.input.bytes ≡ option_map (drop ahead) m.input.bytes
+  pub steady : Steady m.input t.input
+  pub out : t.out ≡ m.out
+  pub report : t.report ≡ m.report
+
 -- the end that the plan comes to
 abbrev pub planned_end : Result Finished Cause → WorkEnd
 planned_end (Ok done) = Ok done
@@ -166,3 +181,4 @@ Went (Fetches name limit next) s o t = RunsOut s o t ⊎ Fetching name limit (λ
 Went (Stores name bytes next) s o t = RunsOut s o t ⊎ Storing name bytes (Went next) s o t
 Went (Prints text next) s o t = RunsOut s o t ⊎ Printing text (Went next) s o t
 Went (Turns turn next) s o t = RunsOut s o t ⊎ ((left : List ℕ) × Tells left s.input × AfterTurn (turn left) left (Went (next left)) s o t)
+Went (Script within) s o t = (m : World) × Went within s o m × IsAhead m t
