@@ -1,6 +1,6 @@
 -- A set of numbered traces, and what may be asked of it.
-use Rattle.std.specs.Prelude.{◌≡◌, ℕ, zero, suc, ◌+◌, ◌≤◌, ◌==◌, nat_le, nat_lt, Bool, true, false, ◌||◌, if◌then◌else◌, List, [], ◌∷◌, ◌++◌, length, Option, None, Some, Result, Ok, Err}
-use Rattle.trace_file.specs.Edges.{Edge, has, pairs}
+use Rattle.std.specs.Prelude.{◌≡◌, ℕ, zero, suc, ◌+◌, ◌≤◌, ◌==◌, nat_le, nat_lt, Bool, true, false, ◌||◌, if◌then◌else◌, List, [], ◌∷◌, ◌++◌, length, slice_index_or, Option, None, Some, Result, Ok, Err}
+use Rattle.trace_file.specs.Edges.{Edge, IsEdges, has, pairs}
 use Rattle.trace_file.specs.declared.limits.TheConstants.{EDGE_LIMIT}
 use Rattle.trace_set.specs.declared.error.TheConstants.{TRACE_LIMIT, ADDITION_LIMIT}
 use Rattle.trace_set.specs.declared.error.SetError.{SetError}
@@ -61,22 +61,30 @@ abbrev pub Removes : {X : Type 0} → Traces → ℕ → Result X Unknown → Tr
 Removes old number (Ok _) new = (is_live number old.traces ≡ true) × (new ≡ record old { traces = without_number number old.traces })
 Removes old number (Err _) new = (is_live number old.traces ≡ false) × (new ≡ old)
 
--- numbers with the edges of their traces
-abbrev pub numbered : List ℕ → List (List Edge) → List (ℕ × List Edge)
-numbered [] sets = []
-numbered (n ∷ ns) [] = []
-numbered (n ∷ ns) (es ∷ sets) = (n, es) ∷ numbered ns sets
+-- the traces from a row on: a flag says whether a row is a live trace, whose number is one above its place
+abbrev pub live_from : ℕ → List Bool → List (List Edge) → List (ℕ × List Edge)
+live_from i [] rows = []
+live_from i (live ∷ flags) [] = []
+live_from i (live ∷ flags) (es ∷ rows) =
+    if live then ((i + 1, es) ∷ live_from (i + 1) flags rows) else live_from (i + 1) flags rows
 
--- what is kept: a number for each trace, and how many pairs the traces have
-pub record IsHeld (numbers : List ℕ) (sets : List (List Edge)) (count next : ℕ) : Type 0 where
-  pub same : length numbers ≡ length sets
-  pub few : length sets ≤ TRACE_LIMIT
-  pub counted : pairs sets ≡ count
+-- what the rows and flags show
+abbrev pub traces_in : List Bool → List (List Edge) → Traces
+traces_in flags rows = record { traces = live_from 0 flags rows; next = length flags + 1 }
+
+-- whether the flag of the trace of the number is set
+abbrev pub flag_of : List Bool → ℕ → Bool
+flag_of flags zero = false
+flag_of flags (suc i) = slice_index_or flags i false
+
+-- a row for each number that was given, and maybe one more; those of no live trace are empty
+pub record IsHeld (flags : List Bool) (rows : List (List Edge)) (live count : ℕ) : Type 0 where
+  pub enough : length flags ≤ length rows
+  pub few_rows : length rows ≤ length flags + 1
+  pub spent : length flags ≤ ADDITION_LIMIT
+  pub empty : (i : ℕ) → slice_index_or flags i false ≡ false → slice_index_or rows i [] ≡ []
+  pub ordered : (i : ℕ) → IsEdges (slice_index_or rows i [])
+  pub counted : pairs rows ≡ count
   pub small : count ≤ EDGE_LIMIT
-  pub spent : next ≤ ADDITION_LIMIT + 1
-
--- the first number of the list that is this one stands here
-abbrev pub IsFirst : ℕ → ℕ → List ℕ → Type 0
-IsFirst at number [] = ⊥
-IsFirst zero number (n ∷ ns) = n ≡ number
-IsFirst (suc at) number (n ∷ ns) = (n ≡ number → ⊥) × IsFirst at number ns
+  pub living : length (live_from 0 flags rows) ≡ live
+  pub few : live ≤ TRACE_LIMIT

@@ -2,7 +2,9 @@
 #![tactic(auto)]
 
 mod error;
-mod place;
+mod fill;
+mod flags;
+mod rows;
 mod set;
 
 pub use error::{ADDITION_LIMIT, SetError, TRACE_LIMIT, Unknown};

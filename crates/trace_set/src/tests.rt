@@ -1,5 +1,5 @@
-//! Two traces that share an edge.
-use crate::{TraceSet, Unknown};
+//! Two traces that share an edge, and numbers that are spent.
+use crate::{ADDITION_LIMIT, SetError, TraceSet, Unknown};
 use br_word::Steps;
 use std::test::Fail;
 use trace_file::Edges;
@@ -20,5 +20,18 @@ fn comes_and_goes(rt: HostRuntime) -> Result<(), Fail> {
     assert!(rt; set.remove(1, &mut steps) == Ok(()));
     assert!(rt; set.remove(1, &mut steps) == Err(Unknown));
     assert_eq!(rt; set.edges()?.as_slice(), [(0, 7)].as_slice());
+    Ok(())
+}
+
+#[test]
+fn spends_its_numbers(rt: HostRuntime) -> Result<(), Fail> {
+    let none = Edges::new(rt.alloc());
+    let mut set = TraceSet::new(rt.alloc());
+    let mut steps = Steps::new(());
+    for number in 1..ADDITION_LIMIT + 1 {
+        assert!(rt; set.add(&none) == Ok(number));
+        assert!(rt; set.remove(number, &mut steps) == Ok(()));
+    }
+    assert!(rt; set.add(&none) == Err(SetError::Spent));
     Ok(())
 }
