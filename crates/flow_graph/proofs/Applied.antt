@@ -1,9 +1,12 @@
 -- The edges that count of a changed set come from those of the set.
-use Rattle.std.proofs.Common.{◌≡◌, ℕ, zero, suc, ◌+◌, ◌<◌, Bool, true, false, cond, not, List, [], ◌∷◌, length, ◌⊎◌, inl, inr, refl, ap, sym, subst, ◌∙◌, arith}
+use Rattle.std.proofs.Common.{◌≡◌, zero, suc, Bool, true, false, not, List, [], ◌∷◌, ◌⊎◌, inl, inr, refl, ap, sym, subst, ◌∙◌, arith}
 use Rattle.std.specs.Prelude.{Contains, All, filter}
 use Rattle.std.proofs.lemmas.Bool.{cases_Bool}
 use Rattle.elf_read.specs.declared.exe.Exe.{Exe}
-use Rattle.trace_file.specs.Edges.{Edge, ascends, has, merge, step, without, union_of, IsInOrder, IsSetOf, IsInSome, SetsHold}
+use Rattle.trace_file.specs.Edges.{Edge, ascends, has, merge, without, IsInOrder, IsSetOf, IsInSome, SetsHold}
+use Rattle.trace_file.proofs.Union.{from_merge, to_merge, ascends_merge}
+use Rattle.trace_file.proofs.Unique.{unique}
+use Rattle.trace_file.proofs.Without.{from_without, ascends_without}
 use Rattle.block_cut.specs.CountedEdges.{counts, counting}
 use Rattle.flow_graph.specs.Graph.{applied, Applies}
 use Rattle.flow_graph.proofs.SiteRuns.{filter_ascends}
@@ -45,6 +48,29 @@ to_filter p (a ∷ es) e c h = elim (cases_Bool (p a)) [
     | inr r ↦ to_filter p es e r h
   ])
 ]
+
+-- ---- the changed set of edges that count
+
+-- only those that are added are tried
+pub added_counted : (p : Edge → Bool) (added gone es : List Edge) → IsInOrder added → IsInOrder es → es ≡ filter p es → merge (filter p added) (without gone es) ≡ filter p (merge added (without gone es))
+added_counted p added gone es oa oe c =
+    unique (merge (filter p added) (without gone es)) (filter p (merge added (without gone es)))
+    (ascends_merge (filter p added) (without gone es) (filter_ascends p added oa) (ascends_without gone es oe))
+    (filter_ascends p (merge added (without gone es)) (ascends_merge added (without gone es) oa (ascends_without gone es oe)))
+    there back
+  where
+    there : (e : Edge) → Contains (merge (filter p added) (without gone es)) e → Contains (filter p (merge added (without gone es))) e
+    there e m = elim (from_merge e (filter p added) (without gone es) m) [
+      | inl a ↦ let f = from_filter p added e a in to_filter p (merge added (without gone es)) e (to_merge e added (without gone es) (inl f.0)) f.1
+      | inr w ↦ let passes = from_filter p es e (subst (λ (t : List Edge). Contains t e) c (from_without gone es e w).0) in
+          to_filter p (merge added (without gone es)) e (to_merge e added (without gone es) (inr w)) passes.1
+    ]
+
+    back : (e : Edge) → Contains (filter p (merge added (without gone es))) e → Contains (merge (filter p added) (without gone es)) e
+    back e m = let f = from_filter p (merge added (without gone es)) e m in elim (from_merge e added (without gone es) f.0) [
+      | inl a ↦ to_merge e (filter p added) (without gone es) (inl (to_filter p added e a f.1))
+      | inr w ↦ to_merge e (filter p added) (without gone es) (inr w)
+    ]
 
 -- ---- the changed set
 

@@ -4,4 +4,5 @@ pub mod RowsShow
 pub mod IndexOf
 pub mod Ascending
 pub mod OneList
+pub mod KnownCuts
 pub mod Applied

@@ -20,7 +20,7 @@ use Rattle.flow_graph.specs.declared.block_rows.BlockRow.{BlockRow}
 use Rattle.flow_graph.specs.Graph.{Node, GraphView, node_at, cut_in, cut_at, targets_from, known_by, known_of, starts_in, AreStarts, IsGraph, AreCode, AreCutsOf}
 use Rattle.flow_graph.specs.CutStarts.{IsCutBlock, starts_with}
 use Rattle.flow_graph.specs.BlockRows.{node_of, nodes_of, cuts_in, row_starts, view_of, IsRow, AreRows, IsKept, Holds, Gains, IsMade, AreMade}
-use Rattle.flow_graph.proofs.SiteRuns.{from_to, targets_run, targets_ascend, filter_ascends}
+use Rattle.flow_graph.proofs.SiteRuns.{from_to, targets_run, targets_ascend, filter_again, filter_ascends}
 
 abbrev targets_in : List Edge → List ℕ
 targets_in es = map (λ (e : Edge). e.1) es
@@ -221,23 +221,29 @@ nodes_exec exe targets blocks known rows all m = subst (AreCode exe) (sym m.node
 pub counted_ascend : (exe : Exe) (es counted : List Edge) → counted ≡ counting exe es → IsEdges es → ascends counted ≡ true
 counted_ascend exe es counted is h = ap ascends is ∙ filter_ascends (counts exe) es h.order
 
-pub counted_few : (exe : Exe) (es counted : List Edge) → counted ≡ counting exe es → IsEdges es → length counted ≤ 16777216
-counted_few exe es counted is h = let same = ap length is in let few = h.count in omega (arith, length-filter (counts exe) es, count_by-le-length (counts exe) es)
+pub counted_no_more : (exe : Exe) (es counted : List Edge) → counted ≡ counting exe es → length counted ≤ length es
+counted_no_more exe es counted is = let same = ap length is in omega (arith, length-filter (counts exe) es, count_by-le-length (counts exe) es)
 
-pub graph_made : (exe : Exe) (es first second : List Edge) (blocks again : List (ℕ × Cut)) (targets : List ℕ) (rows : List BlockRow) → first ≡ counting exe es → second ≡ counting exe es → again ≡ blocks → ascends es ≡ true → AreStarts exe first (starts_with blocks) → AreMade targets again (known_of exe second) rows → IsGraph exe (counting exe es) (nodes_of targets rows)
-graph_made exe es first second blocks again targets rows a b c up s m =
+pub counted_few : (exe : Exe) (es counted : List Edge) → counted ≡ counting exe es → IsEdges es → length counted ≤ 16777216
+counted_few exe es counted is h = let few = h.count in omega (arith, counted_no_more exe es counted is)
+
+pub counted_again : (exe : Exe) (es counted : List Edge) → counted ≡ counting exe es → counted ≡ counting exe counted
+counted_again exe es counted is = is ∙ filter_again (counts exe) es ∙ ap (counting exe) (sym is)
+
+pub counted_edges : (exe : Exe) (es counted : List Edge) → counted ≡ counting exe es → IsEdges es → IsEdges counted
+counted_edges exe es counted is h = record { order = counted_ascend exe es counted is h; count = counted_few exe es counted is h }
+
+pub graph_made : (exe : Exe) (counted first second : List Edge) (blocks again : List (ℕ × Cut)) (targets : List ℕ) (rows : List BlockRow) → first ≡ counted → second ≡ counted → again ≡ blocks → ascends counted ≡ true → AreStarts exe first (starts_with blocks) → AreMade targets again (known_of exe second) rows → IsGraph exe counted (nodes_of targets rows)
+graph_made exe counted first second blocks again targets rows a b c up s m =
     let P : List Edge → Type 0 = λ xs. AreStarts exe xs (starts_with blocks) in
     let Q : List Edge → Type 0 = λ xs. AreMade targets again (known_of exe xs) rows in
-    let R : List (ℕ × Cut) → Type 0 = λ xs. AreMade targets xs (known_of exe (counting exe es)) rows in
-    is_graph exe (counting exe es) blocks targets rows (filter_ascends (counts exe) es up) (subst P a s) (subst R c (subst Q b m))
+    let R : List (ℕ × Cut) → Type 0 = λ xs. AreMade targets xs (known_of exe counted) rows in
+    is_graph exe counted blocks targets rows up (subst P a s) (subst R c (subst Q b m))
 
-pub is_kept : (exe : Exe) (es counted first : List Edge) (blocks again : List (ℕ × Cut)) (targets : List ℕ) (known : ℕ → List ℕ) (rows : List BlockRow) → counted ≡ counting exe es → IsEdges es → again ≡ blocks → length blocks ≤ 65536 → AreStarts exe first (starts_with blocks) → AreMade targets again known rows → IsKept counted targets rows
-is_kept exe es counted first blocks again targets known rows is edges c few s m =
+pub is_kept : (exe : Exe) (counted first : List Edge) (blocks again : List (ℕ × Cut)) (targets : List ℕ) (known : ℕ → List ℕ) (rows : List BlockRow) → IsEdges counted → again ≡ blocks → length blocks ≤ 65536 → AreStarts exe first (starts_with blocks) → AreMade targets again known rows → IsKept counted targets rows
+is_kept exe counted first blocks again targets known rows edges c few s m =
     let R : List (ℕ × Cut) → Type 0 = λ xs. AreMade targets xs known rows in
-    record {
-      edges = record { order = counted_ascend exe es counted is edges; count = counted_few exe es counted is edges };
-      rows = are_rows exe first targets blocks known rows few s (subst R c m);
-    }
+    record { edges = edges; rows = are_rows exe first targets blocks known rows few s (subst R c m) }
 
 pub holds_more : (counted : List Edge) (old new : List ℕ) → Holds counted old → Gains 1 old new → Holds counted new
 holds_more counted old new h g = (h.0 ++ g.0, g.1 ∙ ap (λ xs. xs ++ g.0) h.1 ∙ append_assoc (targets_in counted) h.0 g.0)

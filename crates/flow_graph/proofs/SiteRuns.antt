@@ -37,6 +37,9 @@ filter_each : (p : Edge → Bool) (es : List Edge) → ((k : ℕ) → k < length
 filter_each p [] h = refl
 filter_each p (e ∷ es) h = ap (λ b. cond b (e ∷ filter p es) (filter p es)) (h 0 (omega arith)) ∙ ap (λ xs. e ∷ xs) (filter_each p es (λ k l. h (suc k) (omega arith)))
 
+pub filter_again : (p : Edge → Bool) (es : List Edge) → filter p es ≡ filter p (filter p es)
+filter_again p es = sym (filter_each p (filter p es) (λ k l. filter_passes p es k (0, 0) l))
+
 -- from the first that is not below the site, to the first that is above it
 module _ (es : List Edge) (site from to : ℕ) (in' : from ≤ length es) (up : to ≤ length es) (below : (k : ℕ) → k < from → (get_or es k (0, 0)).0 < site) (at : (k : ℕ) → from ≤ k → k < length es → site ≤ (get_or es k (0, 0)).0) (still : (k : ℕ) → k < to → (get_or es k (0, 0)).0 < site + 1) (past : (k : ℕ) → to ≤ k → k < length es → site + 1 ≤ (get_or es k (0, 0)).0) where
   pub from_to : from ≤ to

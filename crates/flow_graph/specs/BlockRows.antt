@@ -3,7 +3,9 @@ use Rattle.std.specs.Prelude.{◌≡◌, ℕ, ◌-◌, ◌≤◌, List, ◌++◌
 use Rattle.std.specs.List.Sorted.{IsStrictlyIncreasing}
 use Rattle.run_model.specs.Edges.{Edge}
 use Rattle.trace_file.specs.Edges.{IsEdges}
+use Rattle.elf_read.specs.declared.exe.Exe.{Exe}
 use Rattle.block_cut.specs.declared.ends.Cut.{Cut}
+use Rattle.block_cut.specs.Blocks.{block_of, cut_of}
 use Rattle.flow_graph.specs.declared.block_rows.BlockRow.{BlockRow}
 use Rattle.flow_graph.specs.declared.error.TheConstants.{MAX_BLOCKS}
 use Rattle.flow_graph.specs.Graph.{Node, GraphView}
@@ -43,6 +45,15 @@ pub record AreRows (targets : List ℕ) (rows : List BlockRow) : Type 0 where
 pub record IsKept (es : List Edge) (targets : List ℕ) (rs : List BlockRow) : Type 0 where
   pub edges : IsEdges es
   pub rows : AreRows targets rs
+
+-- a row goes as far as the block of its start
+abbrev pub IsCutOf : Exe → BlockRow → Type 0
+IsCutOf exe r = r.cut ≡ cut_of r.start (block_of exe r.start)
+
+-- rows of blocks that need no cut: ascending, each as far as its block
+pub record AreKnown (exe : Exe) (rows : List BlockRow) : Type 0 where
+  pub ascend : IsStrictlyIncreasing (row_starts rows)
+  pub cuts : All (IsCutOf exe) rows
 
 -- ---- how the rows are made
 

@@ -1,7 +1,7 @@
 //! Graphs.
 use crate::block_rows::{BlockRow, rows_of};
 use crate::block_starts::blocks_of;
-use crate::counting::{counting, targets};
+use crate::counting::{changed, counting, targets};
 use crate::error::{GraphError, MAX_BLOCKS};
 use crate::index_search::index_among;
 use block_cut::Cut;
@@ -40,6 +40,7 @@ impl Graph {
     ghost use Rattle.trace_file.specs.declared.limits.TheConstants.{EDGE_LIMIT};
     ghost use Rattle.block_cut.specs.CountedEdges.{counting};
     ghost use Rattle.flow_graph.specs.Graph.{IsGraph, AreCode, HasTooMany, StartsAt, AreCutsOf, node_at, cut_in, cut_at, applied, Applies};
+    ghost use Rattle.flow_graph.specs.BlockRows.{AreKnown};
     ghost use Rattle.flow_graph.specs.declared.error.GraphError.TheVariants.{Blocks};
 
     /// The graph of an executable and edges. Its work grows with their number, and the number and length
@@ -50,6 +51,7 @@ impl Graph {
     pub fn of(alloc: Global, exe: &Exe, edges: &Edges) -> Result<Graph, GraphError>
         requires { IsGuest exe.now }
         ensures edges { IfOk result (λ g. g.edges ≡ counting exe.now edges.now) }
+        ensures counted { IfOk result (λ g. g.edges ≡ counting exe.now g.edges) }
         ensures graph { IfOk result (λ g. IsGraph exe.now (counting exe.now edges.now) g.nodes) }
         ensures cuts { IfOk result (AreCutsOf exe.now) }
         ensures code { IfOk result (λ g. AreCode exe.now g.nodes) }
@@ -57,7 +59,31 @@ impl Graph {
         ensures many { IfErr result (λ e. e ≡ Blocks → HasTooMany exe.now (counting exe.now edges.now)) }
     {
         let counted = counting(alloc, exe, edges.as_slice())?;
-        let blocks = match blocks_of(alloc, exe, counted.as_slice()) {
+        let none: [BlockRow; 0] = [];
+        Graph::of_counted(alloc, exe, counted, &none)
+    }
+
+    /// The graph of edges that count. A start that is known is not cut again. The errors are those of
+    /// [`Graph::of`].
+    fn of_counted(
+        alloc: Global,
+        exe: &Exe,
+        counted: Vec<(u32, u32)>,
+        known: &[BlockRow],
+    ) -> Result<Graph, GraphError>
+        requires guest { IsGuest exe.now }
+        requires edges { IsEdges counted.items }
+        requires counted { counted.items ≡ counting exe.now counted.items }
+        requires known { AreKnown exe.now known.now }
+        ensures edges { IfOk result (λ g. g.edges ≡ counted.items) }
+        ensures counted { IfOk result (λ g. g.edges ≡ counting exe.now g.edges) }
+        ensures graph { IfOk result (λ g. IsGraph exe.now counted.items g.nodes) }
+        ensures cuts { IfOk result (AreCutsOf exe.now) }
+        ensures code { IfOk result (λ g. AreCode exe.now g.nodes) }
+        ensures few { IfOk result (λ g. length g.nodes ≤ MAX_BLOCKS) }
+        ensures many { IfErr result (λ e. e ≡ Blocks → HasTooMany exe.now counted.items) }
+    {
+        let blocks = match blocks_of(alloc, exe, counted.as_slice(), known) {
             Ok(blocks) => blocks,
             Err(e) => return Err(e),
         };
@@ -76,9 +102,10 @@ impl Graph {
         })
     }
 
-    /// Makes this graph of an executable the graph of its edges without those that are `gone` and with those
-    /// that are `added`, of at most [`EDGE_LIMIT`](trace_file::EDGE_LIMIT) together, an edge of both counted
-    /// twice.
+    /// Makes this graph of an executable, all of whose edges count, the graph of its edges without those that
+    /// are `gone` and with those that are `added`, of at most [`EDGE_LIMIT`](trace_file::EDGE_LIMIT) together,
+    /// an edge of both counted twice. Only the sites of `added` are decoded, and only blocks whose starts the
+    /// graph lacks are cut. All else grows with the number of edges and blocks, times a logarithm.
     ///
     /// Errors: [`GraphError::Blocks`] exactly where it would have more than [`MAX_BLOCKS`] blocks, and
     /// [`GraphError::Memory`] for want of memory. After an error the graph is as before.
@@ -91,9 +118,11 @@ impl Graph {
     ) -> Result<(), GraphError>
         requires guest { IsGuest exe.now }
         requires graph { IsGraph exe.now self.old.edges self.old.nodes }
+        requires counted { self.old.edges ≡ counting exe.now self.old.edges }
         requires cuts { AreCutsOf exe.now self.old }
         requires room { length added.now + length (without gone.now self.old.edges) ≤ EDGE_LIMIT }
         ensures edges { OnOk result (self.new.edges ≡ counting exe.now (applied added.now gone.now self.old.edges)) }
+        ensures counted { OnOk result (self.new.edges ≡ counting exe.now self.new.edges) }
         ensures set { OnOk result (Applies exe.now self.old.edges added.now gone.now self.new.edges) }
         ensures graph { OnOk result (IsGraph exe.now self.new.edges self.new.nodes) }
         ensures cuts { OnOk result (AreCutsOf exe.now self.new) }
@@ -102,12 +131,10 @@ impl Graph {
         ensures many { IfErr result (λ e. e ≡ Blocks → HasTooMany exe.now (counting exe.now (applied added.now gone.now self.old.edges))) }
         ensures err { OnErr result (self.new ≡ self.old) }
     {
-        let old = Edges::of_list(self.edges.as_slice().to_vec(alloc)?);
-        let rest = old.without(gone)?;
-        let all = added.union(&rest)?;
+        let counted = changed(alloc, exe, self.edges.as_slice(), added, gone)?;
         let _ = added.len();
         sets_hold();
-        match Graph::of(alloc, exe, &all) {
+        match Graph::of_counted(alloc, exe, counted, self.rows.as_slice()) {
             Ok(graph) => *self = graph,
             Err(error) => return Err(error),
         }

@@ -17,4 +17,6 @@ pub use graph_law::one_graph;
 pub use start_law::least_starts;
 
 #[cfg(test)]
+mod change_tests;
+#[cfg(test)]
 mod tests;

@@ -11,7 +11,7 @@ use std::test::Fail;
 use trace_file::Edges;
 
 /// An executable with this code at 08048000, which begins to run there.
-fn with_code(alloc: Global, code: &[u8]) -> Result<Exe, AllocError>
+pub fn with_code(alloc: Global, code: &[u8]) -> Result<Exe, AllocError>
     requires some { 0 < length code.now }
     requires few { length code.now ≤ 100 }
     ensures { IfOk result IsGuest }
