@@ -9,5 +9,8 @@ pub mod Targets
 pub mod Chosen
 pub mod Ways
 pub mod Each
+pub mod EntryKnown
+mod NextKeys
+mod Builds
 pub mod LiveRows
 pub mod ShortCode

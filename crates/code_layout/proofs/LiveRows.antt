@@ -1,10 +1,11 @@
 -- The rows of a graph's blocks: where they stand, that they are linked, and the keys that they give.
-use Rattle.std.proofs.Common.{◌≡◌, ℕ, zero, suc, ◌^◌, ◌<◌, ◌≤◌, ◌==◌, Bool, true, false, List, [], ◌∷◌, length, map, get_or, Contains, refl, sym, ap, ◌∙◌, subst, arith, inl, inr, ⊎_elim}
+use Rattle.std.proofs.Common.{◌≡◌, ℕ, zero, suc, ◌^◌, ◌<◌, ◌≤◌, ◌==◌, Bool, true, false, List, [], ◌∷◌, ◌++◌, length, drop, map, get_or, Contains, refl, sym, ap, ◌∙◌, subst, arith, inl, inr, ⊎_elim}
 use Rattle.std.specs.Prelude.{if◌then◌else◌}
 use Rattle.std.specs.List.Sorted.{IsStrictlyIncreasing}
 use Rattle.std.proofs.lemmas.Bool.{cases_lt}
 use Rattle.std.proofs.lemmas.Bool.Decides.{nat_tests}
-use Rattle.std.proofs.lemmas.List.{get_or-map, length-map}
+use Rattle.std.proofs.lemmas.List.{get_or-map, length-map, drop_all, append-nil}
+use Rattle.std.proofs.lemmas.List.Elements.{All-nil, All-cons}
 use Rattle.std.proofs.lemmas.Map.Keys.{sorted_from_strictly_increasing, below_from_sorted}
 use Rattle.elf_read.specs.declared.exe.Exe.{Exe}
 use Rattle.elf_read.specs.Elf.{IsGuest}
@@ -25,7 +26,8 @@ use Rattle.live_flow.specs.declared.row.LiveRow.{LiveRow}
 use Rattle.live_flow.specs.Live.{no_row, row_at, place_of, is_live, sets_from, live_in, IsAmong, StartsAscend, NextAreStarts}
 use Rattle.live_flow.specs.Laws.{IsNarrow, AreNarrow, EachRowIsNarrow, SetsAreSmall}
 use Rattle.block_make.specs.Choices.{ready}
-use Rattle.code_layout.specs.Keys.{row_in, rows_in, rows_of, set_at, live_of, key_of, keys_of, key_by}
+use Rattle.live_flow.specs.Rows.{row_of}
+use Rattle.code_layout.specs.Keys.{row_in, rows_in, IsRow, AreRows, rows_of, set_at, live_of, key_of, keys_of, key_by}
 use Rattle.code_layout.proofs.Chosen.{here, there, next_start, starts, starts_of_nodes}
 
 -- ---- what becomes code of a block has its start
@@ -105,6 +107,20 @@ live_length rows = sets_length (is_live rows) 0 rows
 pub rows_same : (exe : Exe) (edges : List Edge) (nodes : List Node) → nodes ≡ graph_of exe edges → rows_in exe nodes ≡ rows_of exe edges
 unfolding rows_of
 rows_same exe edges nodes e = ap (rows_in exe) e
+
+-- ---- rows of blocks
+
+row_is_row : (exe : Exe) (n : Node) → IsRow exe (row_in exe n)
+row_is_row exe n = ap (λ s. row_of (ready exe s) n.known) (sym (ready_start exe n.start))
+
+each_is_row : (exe : Exe) (ns : List Node) → AreRows exe (rows_in exe ns)
+each_is_row exe [] = All-nil (IsRow exe)
+each_is_row exe (n ∷ ns) = All-cons (IsRow exe) (row_in exe n) (rows_in exe ns) (row_is_row exe n) (each_is_row exe ns)
+
+pub all_are_rows : (exe : Exe) (ns : List Node) (rows : List LiveRow) (i : ℕ) → length ns ≤ i → rows ++ map (row_in exe) (drop i ns) ≡ rows_in exe ns → AreRows exe rows
+all_are_rows exe ns rows i l e =
+    let none : rows ++ map (row_in exe) (drop i ns) ≡ rows = ap (λ rest. rows ++ map (row_in exe) rest) (drop_all i ns l) ∙ append-nil rows in
+    subst (AreRows exe) (sym (sym none ∙ e)) (each_is_row exe ns)
 
 -- ---- keys
 

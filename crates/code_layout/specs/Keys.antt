@@ -1,5 +1,5 @@
 -- The keys of the blocks of a graph: what is live at their starts, from a row for each block.
-use Rattle.std.specs.Prelude.{◌≡◌, ℕ, List, get_or, map}
+use Rattle.std.specs.Prelude.{◌≡◌, ℕ, List, get_or, map, All}
 use Rattle.elf_read.specs.declared.exe.Exe.{Exe}
 use Rattle.run_model.specs.Edges.{Edge}
 use Rattle.ssa_form.specs.declared.form.BlockKey.{BlockKey}
@@ -19,6 +19,14 @@ row_in exe node = row_of (ready exe node.start) node.known
 -- those of blocks
 abbrev pub rows_in : Exe → List Node → List LiveRow
 rows_in exe nodes = map (row_in exe) nodes
+
+-- this is the row of a block: of the one that starts where it does, with the known exits that it names
+abbrev pub IsRow : Exe → LiveRow → Type 0
+IsRow exe row = row ≡ row_in exe (record { start = row.start; known = row.next })
+
+-- each of these is
+abbrev pub AreRows : Exe → List LiveRow → Type 0
+AreRows exe rows = All (IsRow exe) rows
 
 -- of the blocks of a graph, in the order of their starts
 unfoldable pub rows_of : Exe → List Edge → List LiveRow

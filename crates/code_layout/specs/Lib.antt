@@ -3,4 +3,5 @@ pub mod Linked
 pub mod Image
 pub mod Layout
 pub mod Rows
+pub mod Growth
 pub mod CodeShort

@@ -4,9 +4,9 @@ ghost use Rattle.elf_read.specs.Elf.{IsGuest};
 ghost use Rattle.run_model.specs.Edges.{Edge};
 ghost use Rattle.flow_graph.specs.GraphOf.{graph_of};
 ghost use Rattle.live_flow.specs.Live.{place_of, row_at, StartsAscend, NextAreStarts};
-ghost use Rattle.code_layout.specs.Keys.{set_at, keys_of, key_by, IsGraphOf};
+ghost use Rattle.code_layout.specs.Keys.{set_at, keys_of, key_by, rows_in, IsGraphOf};
 
-use crate::live::rows_of;
+use crate::live::rows_after;
 use elf_read::Exe;
 use flow_graph::{Graph, one_graph};
 use live_flow::{LiveRow, live, place_of};
@@ -66,6 +66,28 @@ fn keys_by(alloc: Global, rows: &[LiveRow], sets: &[u16]) -> Result<Vec<BlockKey
     Ok(keys)
 }
 
+/// The keys of the blocks of the graph of an executable and edges, in the order of the blocks' starts, from the rows of these blocks.
+/// Nothing is lifted. Known exits take a logarithm of the number of blocks each, all else is linear in the rows.
+///
+/// An error comes only for want of memory.
+pub fn keys_from(
+    alloc: Global,
+    exe: &Exe,
+    graph: &Graph,
+    rows: &[LiveRow],
+) -> Result<Vec<BlockKey>, AllocError>
+    requires guest { IsGuest exe.now }
+    requires graph { IsGraphOf exe.now graph.now.nodes }
+    requires rows { rows.now ≡ rows_in exe.now graph.now.nodes }
+    ensures { (edges : List Edge) → graph.now.nodes ≡ graph_of exe.now edges →
+        IfOk result (λ keys. keys.items ≡ keys_of exe.now edges) }
+{
+    one_graph();
+    let _few = graph.len();
+    let sets = live(alloc, rows)?;
+    keys_by(alloc, rows, sets.as_slice())
+}
+
 /// The keys of the blocks of the graph of an executable and edges, in the order of the blocks' starts: each with its start and its
 /// known exits, and the virtual registers that are live at each of these.
 ///
@@ -77,9 +99,7 @@ pub fn keys_of(alloc: Global, exe: &Exe, graph: &Graph) -> Result<Vec<BlockKey>,
     ensures { (edges : List Edge) → graph.now.nodes ≡ graph_of exe.now edges →
         IfOk result (λ keys. keys.items ≡ keys_of exe.now edges) }
 {
-    one_graph();
-    let _few = graph.len();
-    let rows = rows_of(alloc, exe, graph)?;
-    let sets = live(alloc, rows.as_slice())?;
-    keys_by(alloc, rows.as_slice(), sets.as_slice())
+    let none = Vec::new(alloc);
+    let rows = rows_after(alloc, exe, none.as_slice(), graph)?;
+    keys_from(alloc, exe, graph, rows.as_slice())
 }

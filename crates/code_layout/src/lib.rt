@@ -3,8 +3,10 @@
 
 mod built;
 mod emitted;
+mod entry;
 mod error;
 mod fixing;
+mod growth;
 mod image;
 mod keys;
 mod laws;
@@ -17,9 +19,12 @@ mod short;
 
 pub use built::{BuildError, Built};
 pub use emitted::Emitted;
+pub use entry::is_entry_known;
 pub use error::LayoutError;
-pub use keys::keys_of;
+pub use growth::{layouts_build, layouts_grow};
+pub use keys::{keys_from, keys_of};
 pub use laws::{empty_image, keys_are_keys, layout_links};
 pub use layout::Layout;
+pub use live::rows_after;
 pub use place::{CODE_START, MAX_CODE, PRIVATE_SIZE, PRIVATE_START};
 pub use short::code_short;

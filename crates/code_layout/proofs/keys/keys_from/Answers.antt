@@ -5,43 +5,41 @@ use Rattle.live_flow.specs.declared.row.LiveRow.{LiveRow}
 use Rattle.live_flow.specs.Live.{live_in, StartsAscend, NextAreStarts}
 use Rattle.code_layout.specs.Keys.{rows_of, key_by}
 use Rattle.code_layout.proofs.LiveRows.{live_length, rows_same, keys_by_rows, rows_ascend, next_are}
-use Rattle.code_layout.proofs.keys.keys_of.Goals as goal
+use Rattle.code_layout.proofs.keys.keys_from.Goals as goal
 
 pub live-requires-clause-ascending : goal.live-requires-clause-ascending
 live-requires-clause-ascending c =
     let exe = c.args.exe.now in
     let g = c.requires.graph in
-    subst StartsAscend (sym (c.as_slice.ensures.value ∙ c.in_ok-rows.ensures ∙ rows_same exe g.0 c.args.graph.now.nodes g.1)) (rows_ascend c.one_graph.ensures exe g.0 c.requires.guest)
+    subst StartsAscend (sym (c.requires.rows ∙ rows_same exe g.0 c.args.graph.now.nodes g.1)) (rows_ascend c.one_graph.ensures exe g.0 c.requires.guest)
 
 pub live-requires-clause-starts : goal.live-requires-clause-starts
 live-requires-clause-starts c =
     let exe = c.args.exe.now in
     let g = c.requires.graph in
-    subst NextAreStarts (sym (c.as_slice.ensures.value ∙ c.in_ok-rows.ensures ∙ rows_same exe g.0 c.args.graph.now.nodes g.1)) (next_are c.one_graph.ensures exe g.0 c.requires.guest)
+    subst NextAreStarts (sym (c.requires.rows ∙ rows_same exe g.0 c.args.graph.now.nodes g.1)) (next_are c.one_graph.ensures exe g.0 c.requires.guest)
 
 pub keys_by-requires-clause-ascending : goal.keys_by-requires-clause-ascending
 keys_by-requires-clause-ascending c =
     let exe = c.args.exe.now in
     let g = c.requires.graph in
-    subst StartsAscend (sym (c.as_slice-2.ensures.value ∙ c.in_ok-rows.ensures ∙ rows_same exe g.0 c.args.graph.now.nodes g.1)) (rows_ascend c.one_graph.ensures exe g.0 c.requires.guest)
+    subst StartsAscend (sym (c.requires.rows ∙ rows_same exe g.0 c.args.graph.now.nodes g.1)) (rows_ascend c.one_graph.ensures exe g.0 c.requires.guest)
 
 pub keys_by-requires-clause-starts : goal.keys_by-requires-clause-starts
 keys_by-requires-clause-starts c =
     let exe = c.args.exe.now in
     let g = c.requires.graph in
-    subst NextAreStarts (sym (c.as_slice-2.ensures.value ∙ c.in_ok-rows.ensures ∙ rows_same exe g.0 c.args.graph.now.nodes g.1)) (next_are c.one_graph.ensures exe g.0 c.requires.guest)
+    subst NextAreStarts (sym (c.requires.rows ∙ rows_same exe g.0 c.args.graph.now.nodes g.1)) (next_are c.one_graph.ensures exe g.0 c.requires.guest)
 
 pub keys_by-requires-clause-sets : goal.keys_by-requires-clause-sets
 keys_by-requires-clause-sets c =
-    ap length (c.as_slice-3.ensures.value ∙ c.in_ok-sets.ensures) ∙ live_length c.as_slice.result.now ∙ ap length (c.as_slice.ensures.value ∙ sym c.as_slice-2.ensures.value)
+    ap length (c.as_slice.ensures.value ∙ c.in_ok-sets.ensures) ∙ live_length c.args.rows.now
 
 pub returns : goal.returns
 returns c edges e =
     let exe = c.args.exe.now in
     let rows : List LiveRow = rows_of exe edges in
-    let all = rows_same exe edges c.args.graph.now.nodes e in
-    let first = c.as_slice.ensures.value ∙ c.in_ok-rows.ensures ∙ all in
-    let again = c.as_slice-2.ensures.value ∙ c.in_ok-rows.ensures ∙ all in
-    let sets = c.as_slice-3.ensures.value ∙ c.in_ok-sets.ensures ∙ ap live_in first in
+    let all = c.requires.rows ∙ rows_same exe edges c.args.graph.now.nodes e in
+    let sets = c.as_slice.ensures.value ∙ c.in_ok-sets.ensures ∙ ap live_in all in
     let P : List BlockKey → Type 0 = λ ks. IfOk c.keys_by.result (λ keys. keys.items ≡ ks) in
-    subst P (ap (λ (r : List LiveRow). map (key_by r c.as_slice-3.result.now) r) again ∙ ap (λ (s : List ℕ). map (key_by rows s) rows) sets ∙ keys_by_rows exe edges) c.keys_by.ensures
+    subst P (ap (λ (r : List LiveRow). map (key_by r c.as_slice.result.now) r) all ∙ ap (λ (s : List ℕ). map (key_by rows s) rows) sets ∙ keys_by_rows exe edges) c.keys_by.ensures

@@ -1,0 +1,6 @@
+pub mod Ordered
+mod Changes
+mod Follow
+mod CallsHold
+mod Laying
+mod Seen
