@@ -17,12 +17,15 @@ use Rattle.image_laws.specs.Quick.{KnowAtMost}
 abbrev pub most_steps : ℕ → ℕ
 most_steps exits = 16384 + 2 * exits
 
--- Where the original's run of n steps is well defined, the image comes to the same observation within so many times n steps, and on the
--- way shows only what the original does.
-abbrev pub ImageQuick : Type 0
-ImageQuick = (file : List ℕ) (exe : Exe) (edges : List Edge) → elf Original file ≡ Ok exe → IsEdges edges
-    → length (graph_of exe edges) ≤ MAX_BLOCKS → length (code_of exe edges) ≤ MAX_CODE
-    → (exits : ℕ) → KnowAtMost exits (graph_of exe edges)
+-- Where no block has more known exits than these and the original's run of n steps is well defined, the image with edges comes to the
+-- same observation within so many times n steps, and on the way shows only what the original does.
+abbrev pub KeepsPace : List ℕ → Exe → List Edge → Type 0
+KeepsPace file exe edges = (exits : ℕ) → KnowAtMost exits (graph_of exe edges)
     → (words : List (List ℕ)) (input choices : List ℕ) → AreOfBytes file words input
     → (n : ℕ) → IsWellDefinedRun file words input n
     → (r : ReachesAt file (image exe edges) words input choices n) × (r.steps ≤ most_steps exits * n)
+
+-- the image of each original does, where neither limit is passed
+abbrev pub ImageQuick : Type 0
+ImageQuick = (file : List ℕ) (exe : Exe) (edges : List Edge) → elf Original file ≡ Ok exe → IsEdges edges
+    → length (graph_of exe edges) ≤ MAX_BLOCKS → length (code_of exe edges) ≤ MAX_CODE → KeepsPace file exe edges

@@ -3,19 +3,17 @@ use Rattle.std.proofs.Common.{◌≡◌, ◌⊎◌, ◌≤◌, nat_le, cond, ℕ
 use Rattle.std.specs.Option.{option_map}
 use Rattle.br_outside.specs.Files.{Files, put}
 use Rattle.br_outside.specs.Outside.{ShelfView, StreamView}
-use Rattle.elf_read.specs.Elf.{elf}
 use Rattle.elf_read.specs.declared.exe.Exe.{Exe}
-use Rattle.elf_read.specs.declared.exe.Reach.TheVariants.{Original, Guest}
 use Rattle.sha2.specs.Sha256.{sha256}
-use Rattle.trace_file.specs.Edges.{Edge, IsEdges, union_of}
+use Rattle.trace_file.specs.Edges.{Edge, union_of}
 use Rattle.flow_graph.specs.declared.error.TheConstants.{MAX_BLOCKS}
 use Rattle.flow_graph.specs.GraphOf.{graph_of}
 use Rattle.code_layout.specs.declared.place.TheConstants.{MAX_CODE}
 use Rattle.code_layout.specs.declared.built.Built.{Built}
 use Rattle.code_layout.specs.Linked.{code_of}
 use Rattle.code_layout.specs.Image.{image, built_of}
-use Rattle.sim_laws.specs.Preserves.{Preserves}
-use Rattle.sim_laws.specs.Covers.{Covers}
+use Rattle.build_core.specs.ImageLaw.{ImageLaw}
+use Rattle.build_core.specs.ImageQuick.{ImageQuick}
 use Rattle.top_plan.specs.World.{World, on_shelf, on_report}
 use Rattle.top_plan.specs.Texts.{WorkEnd, end_line, end_text, end_status, cause_text, object_text}
 use Rattle.top_plan.specs.Plan.{Stores as storing}
@@ -74,17 +72,17 @@ line_is o x a b h is = let P : WorkEnd → Type 0 = λ o. b ≡ option_map (λ w
 other : {A : Type 0} (o x : WorkEnd) (k : ℕ) → o ≡ x → end_status o ≡ k → (end_status x ≡ k → ⊥) → A
 other o x k is h apart = absurd (apart (sym (ap end_status is) ∙ h))
 
--- each original is the same guest, and its image with edges preserves its behaviour and covers the edges
+-- what each original's image with edges does, and how fast
 abbrev pub Law : Type 0
-Law = (file : List ℕ) (exe : Exe) (edges : List Edge) → elf Original file ≡ Ok exe → IsEdges edges → length (graph_of exe edges) ≤ MAX_BLOCKS → length (code_of exe edges) ≤ MAX_CODE
-    → (elf Guest file ≡ Ok exe) × Preserves file (image exe edges) × Covers file (image exe edges) edges
+Law = ImageLaw × ImageQuick
 
 kept_image : (name original : List ℕ) (traces : List (List ℕ)) (exe : Exe) (sets : List (List Edge)) (files : Files) (s t : World) → Law → IfSome s.shelf.files (λ files. AreGiven original traces files exe sets)
     → length (graph_of exe (union_of sets)) ≤ MAX_BLOCKS → length (code_of exe (union_of sets)) ≤ MAX_CODE
     → t.shelf.files ≡ option_map (put name (Some (image exe (union_of sets)))) s.shelf.files → s.shelf.files ≡ Some files → IsStored name original traces files t
 kept_image name original traces exe sets files s t law given few short stored told =
     let here : AreGiven original traces files exe sets = told_to s.shelf.files files (λ files. AreGiven original traces files exe sets) told given in
-    let laws = law here.content exe (union_of sets) here.accepted (edges_given files (sha256 here.content) traces sets here.traces) few short in
+    let edges = edges_given files (sha256 here.content) traces sets here.traces in
+    let laws = law.0 here.content exe (union_of sets) here.accepted edges few short in
     record {
       exe = exe;
       sets = sets;
@@ -95,6 +93,7 @@ kept_image name original traces exe sets files s t law given few short stored to
       stored = stored ∙ ap (option_map (put name (Some (image exe (union_of sets))))) told;
       preserved = laws.1;
       covered = laws.2;
+      pace = law.1 here.content exe (union_of sets) here.accepted edges few short;
     }
 
 -- the status of an end, and its line

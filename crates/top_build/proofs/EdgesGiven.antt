@@ -23,7 +23,7 @@ in_order bytes digest h =
     (later_none 21 (first_difference 0 magic bytes) _ h).1).1).1).1).1).0
 
 -- the edges of a trace ascend
-trace_ascends : (bytes digest : List ℕ) (es : List Edge) → trace bytes digest ≡ Ok es → ascends es ≡ true
+pub trace_ascends : (bytes digest : List ℕ) (es : List Edge) → trace bytes digest ≡ Ok es → ascends es ≡ true
 unfolding trace
 trace_ascends bytes digest es h = by_refusal (refusal bytes digest) refl h
   where

@@ -12,6 +12,7 @@ use Rattle.sim_laws.specs.Covers.{Covers}
 use Rattle.code_layout.specs.declared.place.TheConstants.{MAX_CODE}
 use Rattle.code_layout.specs.Linked.{code_of}
 use Rattle.code_layout.specs.Image.{image, built_of, HasTooManyBlocks, IsTooLong}
+use Rattle.build_core.specs.ImageQuick.{KeepsPace}
 use Rattle.top_plan.specs.World.{World}
 use Rattle.top_plan.specs.Texts.{cause_text, object_text}
 use Rattle.top_plan.specs.Expected.{HasFailed}
@@ -24,8 +25,8 @@ use Rattle.top_files.specs.ReadMeaning.{ReadsContent, AreGiven, IsOneAbsent, IsR
 use Rattle.top_build.specs.BuildPlan.{built_line}
 
 -- The content of the original is accepted, as a guest it is the same executable, and its traces are accepted; the image with all
--- their edges is within its limits and stored under the name, and all other names are as before. It preserves the behaviour, and runs
--- no original instruction while a run keeps to these edges.
+-- their edges is within its limits and stored under the name, and all other names are as before. It preserves the behaviour, runs no
+-- original instruction while a run keeps to these edges, and keeps pace.
 pub record IsStored (name original : List ℕ) (traces : List (List ℕ)) (files : Files) (t : World) : Type 0 where
   pub exe : Exe
   pub sets : List (List Edge)
@@ -36,6 +37,7 @@ pub record IsStored (name original : List ℕ) (traces : List (List ℕ)) (files
   pub stored : t.shelf.files ≡ Some (put name (Some (image exe (union_of sets))) files)
   pub preserved : Preserves given.content (image exe (union_of sets))
   pub covered : Covers given.content (image exe (union_of sets)) (union_of sets)
+  pub pace : KeepsPace given.content exe (union_of sets)
 
 -- the same, where the shelf tells its files
 abbrev pub Stores : List ℕ → List ℕ → List (List ℕ) → World → World → Type 0
