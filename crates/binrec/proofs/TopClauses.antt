@@ -6,7 +6,7 @@ use Rattle.top_plan.specs.Happened.{Happened, Answered}
 use Rattle.top_plan.specs.Expected.{IsExact, IsComplete, HasCause}
 use Rattle.top_plan.specs.Partial.{IsPartial, IsOrderly}
 use Rattle.top_plan.specs.Steady.{IsSteady}
-use Rattle.word_reader.specs.Words.{Asked, Builds, Traces, Runs, Merges, Shows, Sessions, Demos, first_name}
+use Rattle.word_reader.specs.Words.{Asked, Builds, Traces, Runs, Merges, Shows, Sessions, Demos, command, first_name}
 use Rattle.word_reader.specs.Reads.{asked_of}
 use Rattle.word_reader.specs.declared.command.Command.{Command}
 use Rattle.top_build.specs.BuildPlan.{build_plan}
@@ -21,29 +21,31 @@ use Rattle.top_graph.specs.ShowPlan.{show_plan}
 use Rattle.top_graph.specs.ShowMeaning.{MeansShow}
 use Rattle.top_demo.specs.DemoPlan.{demo_plan}
 use Rattle.top_demo.specs.DemoMeaning.{MeansDemo}
-use Rattle.binrec.specs.Words.{IsFitting, asked_by}
+use Rattle.top_session.specs.SessionPlan.{session_plan}
+use Rattle.top_session.specs.SessionMeaning.{MeansSession}
+use Rattle.binrec.specs.Words.{IsFitting}
 use Rattle.binrec.specs.Commands.{plan_of, planned, plan}
 use Rattle.binrec.specs.Meaning.{MeansUsage}
 use Rattle.binrec.proofs.UsageMeant.{NeverOne, means_usage}
-use Rattle.binrec.proofs.WordsFit.{fit_asked}
+use Rattle.binrec.proofs.WordsFit.{fit_read}
 
 -- whatever holds of the plan of the command that was asked for
-pub asked_for : (P : Result Plan ℕ → Type 0) (words : List (List ℕ)) (asked : Asked) (word : ℕ) → asked_by words ≡ Ok asked → word ≡ first_name words → P (plan_of asked word) → P (plan words)
+pub asked_for : (P : Result Plan ℕ → Type 0) (words : List (List ℕ)) (asked : Asked) (word : ℕ) → command words ≡ Ok asked → word ≡ first_name words → P (Ok (plan_of asked word)) → P (plan words)
 asked_for P words asked word is at p =
     let Q : Result Asked ℕ → Type 0 = λ r. P (planned r (first_name words)) in
-    let R : ℕ → Type 0 = λ w. P (plan_of asked w) in
+    let R : ℕ → Type 0 = λ w. P (Ok (plan_of asked w)) in
     subst Q (sym is) (subst R at p)
 
-pub not_asked : (P : Result Plan ℕ → Type 0) (words : List (List ℕ)) (at : ℕ) → asked_by words ≡ Err at → P (Err at) → P (plan words)
+pub not_asked : (P : Result Plan ℕ → Type 0) (words : List (List ℕ)) (at : ℕ) → command words ≡ Err at → P (Err at) → P (plan words)
 not_asked P words at is p = let Q : Result Asked ℕ → Type 0 = λ r. P (planned r (first_name words)) in subst Q (sym is) p
 
 -- what holds of the plan of the words holds of that of the command that they ask for
-asked_of_words : (P : Result Plan ℕ → Type 0) (words : List (List ℕ)) (asked : Asked) → asked_by words ≡ Ok asked → P (plan words) → P (plan_of asked (first_name words))
+asked_of_words : (P : Result Plan ℕ → Type 0) (words : List (List ℕ)) (asked : Asked) → command words ≡ Ok asked → P (plan words) → P (Ok (plan_of asked (first_name words)))
 asked_of_words P words asked is p = let Q : Result Asked ℕ → Type 0 = λ r. P (planned r (first_name words)) in subst Q is p
 
 -- a command is what it was matched as
-pub answers_as : (command read : Command) (word : ℕ) (s : World) (result : ℕ) (t : World) → command ≡ read → Answered (plan_of (asked_of read) word) s result t → Answered (plan_of (asked_of command) word) s result t
-answers_as command read word s result t is h = let P : Command → Type 0 = λ c. Answered (plan_of (asked_of c) word) s result t in subst P (sym is) h
+pub answers_as : (command read : Command) (word : ℕ) (s : World) (result : ℕ) (t : World) → command ≡ read → Happened (plan_of (asked_of read) word) s result t → Happened (plan_of (asked_of command) word) s result t
+answers_as command read word s result t is h = let P : Command → Type 0 = λ c. Happened (plan_of (asked_of c) word) s result t in subst P (sym is) h
 
 -- what it is given fits
 pub fits_as : (command read : Command) → command ≡ read → IsFitting (asked_of command) → IsFitting (asked_of read)
@@ -59,6 +61,7 @@ pub record AreOrderly : Type 0 where
   pub merge : (target original : List ℕ) (names : List (List ℕ)) → IsOrderly (merge_plan target original names)
   pub show : (original : List ℕ) (names : List (List ℕ)) → IsOrderly (show_plan original names)
   pub demo : (count : ℕ) → IsOrderly (demo_plan count)
+  pub session : (original : List ℕ) → IsOrderly (session_plan original)
 
 -- what their answers mean
 pub record Meanings : Type 0 where
@@ -69,6 +72,7 @@ pub record Meanings : Type 0 where
   pub merge : (target original : List ℕ) (names : List (List ℕ)) (s : World) (result : ℕ) (t : World) → Happened (merge_plan target original names) s result t → MeansMerge target original names s result t
   pub show : (original : List ℕ) (names : List (List ℕ)) (s : World) (result : ℕ) (t : World) → Happened (show_plan original names) s result t → MeansShow original names s result t
   pub demo : (count : ℕ) (s : World) (result : ℕ) (t : World) → 1 ≤ count → count ≤ 1000 → Happened (demo_plan count) s result t → MeansDemo count s result t
+  pub session : (original : List ℕ) (s : World) (result : ℕ) (t : World) → Happened (session_plan original) s result t → MeansSession original s result t
 
 -- what a run of any plan comes to
 pub record PlanLaw : Type 0 where
@@ -84,21 +88,18 @@ pub record PlanLaw : Type 0 where
 same_plan : (p q : Plan) → (let r : Result Plan ℕ = Ok p in r) ≡ Ok q → IsOrderly p → IsOrderly q
 same_plan p q is h = let e : p ≡ q = cc in subst IsOrderly e h
 
-none_there : (at : ℕ) (q : Plan) → (let r : Result Plan ℕ = Err at in r) ≡ Ok q → IsOrderly q
-none_there at q is = absurd (cc)
-
-orderly_of : AreOrderly → (asked : Asked) (word : ℕ) (p : Plan) → plan_of asked word ≡ Ok p → IsOrderly p
-orderly_of law (Builds name original traces) word p is = same_plan (build_plan name original traces) p is (law.build name original traces)
-orderly_of law (Traces steps target original args) word p is = same_plan (trace_plan steps target original args (word + 1)) p is (law.trace steps target original args (word + 1))
-orderly_of law (Runs steps name args) word p is = same_plan (run_plan steps name args word) p is (law.run steps name args word)
-orderly_of law (Merges target original names) word p is = same_plan (merge_plan target original names) p is (law.merge target original names)
-orderly_of law (Shows original names) word p is = same_plan (show_plan original names) p is (law.show original names)
-orderly_of law (Sessions original) word p is = none_there 0 p is
-orderly_of law (Demos count) word p is = same_plan (demo_plan count) p is (law.demo count)
+orderly_of : AreOrderly → (asked : Asked) (word : ℕ) → IsOrderly (plan_of asked word)
+orderly_of law (Builds name original traces) word = law.build name original traces
+orderly_of law (Traces steps target original args) word = law.trace steps target original args (word + 1)
+orderly_of law (Runs steps name args) word = law.run steps name args word
+orderly_of law (Merges target original names) word = law.merge target original names
+orderly_of law (Shows original names) word = law.show original names
+orderly_of law (Sessions original) word = law.session original
+orderly_of law (Demos count) word = law.demo count
 
 orderly : AreOrderly → (read : Result Asked ℕ) (word : ℕ) (p : Plan) → planned read word ≡ Ok p → IsOrderly p
-orderly law (Ok asked) word p is = orderly_of law asked word p is
-orderly law (Err at) word p is = none_there at p is
+orderly law (Ok asked) word p is = same_plan (plan_of asked word) p is (orderly_of law asked word)
+orderly law (Err at) word p is = absurd (let z : (let r : Result Plan ℕ = Err at in r) ≡ Ok p = is in cc)
 
 -- ---- the clauses
 
@@ -111,18 +112,19 @@ pub record AllOf (words : List (List ℕ)) (s : World) (result : ℕ) (t : World
   pub cause : HasCause s result t
   pub steady : IsSteady s result t
   pub usage : MeansUsage (plan words) s result t
-  pub build : (name original : List ℕ) (traces : List (List ℕ)) → asked_by words ≡ Ok (Builds name original traces) → MeansBuild name original traces s result t
-  pub run : (steps : ℕ) (name : List ℕ) (args : List (List ℕ)) → asked_by words ≡ Ok (Runs steps name args) → MeansRun steps name args (first_name words) s result t
-  pub trace : (steps : ℕ) (target original : List ℕ) (args : List (List ℕ)) → asked_by words ≡ Ok (Traces steps target original args) → MeansTrace steps target original args (first_name words + 1) s result t
-  pub merge : (target original : List ℕ) (names : List (List ℕ)) → asked_by words ≡ Ok (Merges target original names) → MeansMerge target original names s result t
-  pub show : (original : List ℕ) (names : List (List ℕ)) → asked_by words ≡ Ok (Shows original names) → MeansShow original names s result t
-  pub demo : (count : ℕ) → asked_by words ≡ Ok (Demos count) → MeansDemo count s result t
+  pub build : (name original : List ℕ) (traces : List (List ℕ)) → command words ≡ Ok (Builds name original traces) → MeansBuild name original traces s result t
+  pub run : (steps : ℕ) (name : List ℕ) (args : List (List ℕ)) → command words ≡ Ok (Runs steps name args) → MeansRun steps name args (first_name words) s result t
+  pub trace : (steps : ℕ) (target original : List ℕ) (args : List (List ℕ)) → command words ≡ Ok (Traces steps target original args) → MeansTrace steps target original args (first_name words + 1) s result t
+  pub merge : (target original : List ℕ) (names : List (List ℕ)) → command words ≡ Ok (Merges target original names) → MeansMerge target original names s result t
+  pub show : (original : List ℕ) (names : List (List ℕ)) → command words ≡ Ok (Shows original names) → MeansShow original names s result t
+  pub demo : (count : ℕ) → command words ≡ Ok (Demos count) → MeansDemo count s result t
+  pub session : (original : List ℕ) → command words ≡ Ok (Sessions original) → MeansSession original s result t
 
 pub all_of : (words : List (List ℕ)) (s : World) (result : ℕ) (t : World) → PlanLaw → AreOrderly → Meanings → Answered (plan words) s result t → AllOf words s result t
 all_of words s result t law order meanings h =
     let did : (p : Plan) → plan words ≡ Ok p → Happened p s result t = λ p is. (let P : Result Plan ℕ → Type 0 = λ r. Answered r s result t in subst P is h) in
-    let good : (p : Plan) → plan words ≡ Ok p → IsOrderly p = λ p is. orderly order (asked_by words) (first_name words) p is in
-    let of_words : (asked : Asked) → asked_by words ≡ Ok asked → Answered (plan_of asked (first_name words)) s result t = λ asked is. asked_of_words (λ r. Answered r s result t) words asked is h in
+    let good : (p : Plan) → plan words ≡ Ok p → IsOrderly p = λ p is. orderly order (command words) (first_name words) p is in
+    let of_words : (asked : Asked) → command words ≡ Ok asked → Answered (Ok (plan_of asked (first_name words))) s result t = λ asked is. asked_of_words (λ r. Answered r s result t) words asked is h in
     record {
       happened = h;
       exact = λ p is. law.exact p s result t (good p is) (did p is);
@@ -136,5 +138,6 @@ all_of words s result t law order meanings h =
       trace = λ steps target original args is. meanings.trace steps target original args (first_name words + 1) s result t (of_words (Traces steps target original args) is);
       merge = λ target original names is. meanings.merge target original names s result t (of_words (Merges target original names) is);
       show = λ original names is. meanings.show original names s result t (of_words (Shows original names) is);
-      demo = λ count is. let fits = fit_asked words (Demos count) is in meanings.demo count s result t fits.0 fits.1 (of_words (Demos count) is);
+      demo = λ count is. let fits = fit_read words (Demos count) is in meanings.demo count s result t fits.0 fits.1 (of_words (Demos count) is);
+      session = λ original is. meanings.session original s result t (of_words (Sessions original) is);
     }

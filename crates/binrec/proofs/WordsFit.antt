@@ -7,7 +7,7 @@ use Rattle.std.specs.Int.Digits.{number_from_digits_after}
 use Rattle.run_model.specs.Opening.{FitArguments, texts, arguments}
 use Rattle.word_reader.specs.Numbers.{are_digits, is_digit, number_of_digits, number_in}
 use Rattle.word_reader.specs.Words.{Asked, Builds, Traces, Runs, Merges, Shows, Sessions, Demos, is_name, next_name, no_more, unless_wrong, or_wrong, first_no_argument, first_no_trace, traces_at, arguments_at, own_bytes, steps_behind, next_steps, build_words, trace_words, run_words, merge_words, show_words, session_words, demo_words, demo_count, command, is_steps, first_name}
-use Rattle.binrec.specs.Words.{Fits, IsFitting, words_taken, within, asked_by}
+use Rattle.binrec.specs.Words.{Fits, IsFitting}
 
 -- ---- tests
 
@@ -180,21 +180,6 @@ fit_command (word ∷ words) =
 pub fit_read : (words : List (List ℕ)) (asked : Asked) → command words ≡ Ok asked → IsFitting asked
 unfolding Fit
 fit_read words asked is = let h : Fit (Ok asked) = subst Fit is (fit_command words) in h
-
--- the words taken change no command
-within_ok : (taken : Option ℕ) (count : ℕ) (read : Result Asked ℕ) (asked : Asked) → within taken count read ≡ Ok asked → read ≡ Ok asked
-within_ok None count read asked is = is
-within_ok (Some k) count (Ok a) asked is = go (nat_le count k) is
-  where
-    go : (b : Bool) → cond b (Ok a) (Err k) ≡ Ok asked → (let r : Result Asked ℕ = Ok a in r) ≡ Ok asked
-    go true is = is
-    go false is = absurd (let z : (let r : Result Asked ℕ = Err k in r) ≡ Ok asked = is in cc)
-within_ok (Some k) count (Err at) asked is = absurd (let z : (let r : Result Asked ℕ = Err (min at k) in r) ≡ Ok asked = is in cc)
-
--- and so what is asked for
-pub fit_asked : (words : List (List ℕ)) (asked : Asked) → asked_by words ≡ Ok asked → IsFitting asked
-fit_asked [] asked is = absurd (let z : (let r : Result Asked ℕ = Err 0 in r) ≡ Ok asked = is in cc)
-fit_asked (word ∷ words) asked is = fit_read (word ∷ words) asked (within_ok (words_taken word) (length words + 1) (command (word ∷ words)) asked is)
 
 -- ---- positions
 

@@ -2,7 +2,8 @@
 ghost use Rattle.std.specs.Prelude.{Some, map, string_bytes};
 ghost use Rattle.top_plan.specs.Texts.{usage_text};
 ghost use Rattle.top_plan.specs.Happened.{TellsLine};
-ghost use Rattle.binrec.specs.Words.{asked_by, first_wrong};
+ghost use Rattle.word_reader.specs.Words.{command};
+ghost use Rattle.binrec.specs.Words.{first_wrong};
 
 use crate::top::Status;
 use crate::words::read_command;
@@ -62,7 +63,7 @@ pub fn read_arguments<E: Env>(alloc: Global, env: &E) -> Result<Arguments, Alloc
 /// Reports that words are no command, since the one at a position is not UTF-8, and answers the status: the line has the
 /// position of the first that is wrong of the `words` before it, or else its own.
 pub fn tell_broken<R: Sink>(report: &mut R, words: &[String], position: u32) -> Status
-    ensures { TellsLine (Some (usage_text (first_wrong (asked_by (map string_bytes words.now)) position))) 1
+    ensures { TellsLine (Some (usage_text (first_wrong (command (map string_bytes words.now)) position))) 1
         (R.seen report.old) result.0 (R.seen report.new) }
 {
     match read_command(words) {

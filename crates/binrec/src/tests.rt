@@ -5,6 +5,7 @@ mod demo;
 mod listings;
 mod refusals;
 mod run;
+mod session;
 mod traces;
 mod words;
 

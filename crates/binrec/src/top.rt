@@ -4,11 +4,11 @@ ghost use Rattle.br_outside.specs.Outside.{StreamView};
 ghost use Rattle.top_plan.specs.World.{world};
 ghost use Rattle.top_plan.specs.Plan.{Plan};
 ghost use Rattle.top_plan.specs.Texts.{end_of, end_line, end_status};
-ghost use Rattle.top_plan.specs.Happened.{TellsLine, Answered};
+ghost use Rattle.top_plan.specs.Happened.{TellsLine, Happened, Answered};
 ghost use Rattle.top_plan.specs.Expected.{IsExact, IsComplete, HasCause};
 ghost use Rattle.top_plan.specs.Partial.{IsPartial};
 ghost use Rattle.top_plan.specs.Steady.{IsSteady};
-ghost use Rattle.word_reader.specs.Words.{Builds, Traces, Runs, Merges, Shows, Demos, first_name};
+ghost use Rattle.word_reader.specs.Words.{Builds, Traces, Runs, Merges, Shows, Sessions, Demos, command, first_name};
 ghost use Rattle.word_reader.specs.Reads.{asked_of};
 ghost use Rattle.top_build.specs.BuildMeaning.{MeansBuild};
 ghost use Rattle.top_run.specs.RunMeaning.{MeansRun};
@@ -16,7 +16,8 @@ ghost use Rattle.top_run.specs.TraceMeaning.{MeansTrace};
 ghost use Rattle.top_graph.specs.MergeMeaning.{MeansMerge};
 ghost use Rattle.top_graph.specs.ShowMeaning.{MeansShow};
 ghost use Rattle.top_demo.specs.DemoMeaning.{MeansDemo};
-ghost use Rattle.binrec.specs.Words.{IsFitting, asked_by};
+ghost use Rattle.top_session.specs.SessionMeaning.{MeansSession};
+ghost use Rattle.binrec.specs.Words.{IsFitting};
 ghost use Rattle.binrec.specs.Commands.{plan_of, plan};
 ghost use Rattle.binrec.specs.Meaning.{MeansUsage};
 
@@ -28,6 +29,7 @@ use top_demo::{demo_command, demo_law};
 use top_graph::{merge_command, merge_law, show_command, show_law};
 use top_plan::{Halt, Outcome, plan_law, tell_halt, tell_outcome, tell_usage};
 use top_run::{run_command, run_law, trace_command, trace_law};
+use top_session::{session_command, session_law};
 use word_reader::{Command, first_name};
 
 /// The status of a command, with which the program ends.
@@ -59,7 +61,7 @@ fn answer<F: Shelf, I: Source, O: Sink, R: Sink>(
 ) -> u8
     requires fitting { IsFitting (asked_of command) }
     requires first { first ≤ 3 }
-    ensures { Answered (plan_of (asked_of command.entry) first)
+    ensures { Happened (plan_of (asked_of command.entry) first)
         (world (F.seen shelf.old) (I.seen input.old) (O.seen out.old) (R.seen report.old)) result
         (world (F.seen shelf.new) (I.seen input.new) (O.seen out.new) (R.seen report.new)) }
 {
@@ -90,7 +92,10 @@ fn answer<F: Shelf, I: Source, O: Sink, R: Sink>(
             );
             tell_end(report, end)
         }
-        Command::Session { .. } => tell_usage(report, 0),
+        Command::Session { e } => {
+            let end = session_command(alloc, shelf, input, out, e);
+            tell_end(report, end)
+        }
         Command::Demo { count } => tell_end(report, demo_command(alloc, out, count)),
     }
 }
@@ -104,11 +109,13 @@ fn answer<F: Shelf, I: Source, O: Sink, R: Sink>(
 /// | `run [--steps K] E WORD..` | runs E for at most K steps | `exit S steps M undefined U` |
 /// | `merge T E T..` | stores the union of the later traces of E as the first T | `merged P` |
 /// | `show E T..` | prints the listing of the blocks that the traces of E have seen | `shown B`, B the number of blocks |
+/// | `session E` | does what the lines of `input` ask: `add NAME`, `remove K`, `emit NAME` | `lines Q`, Q the number of lines |
 /// | `demo K` | traces a program with K functions, builds it with that trace, runs both, and prints one line | none |
 ///
 /// A name is a text of 1 to 4096 bytes; at most 4096 traces are fetched. K is 1 to 18 decimal digits, and
 /// 100000000 where it is not given; that of `demo` is from 1 to 1000. A guest takes its input of `input`, prints on `out` and reports on
-/// `report`; `build`, `merge`, `show` and `demo` take nothing, and of these `show` and `demo` print. `demo` answers 0, 3 or 4 and, where its
+/// `report`; `build`, `merge`, `show` and `demo` take nothing, and of these `show` and `demo` print. A session prints a line for each that
+/// it has done, and may take up to 4096 bytes beyond its lines. `demo` answers 0, 3 or 4 and, where its
 /// words are wrong, 1; it calls no file. S is the guest's status, M the number of its
 /// steps, U how many of them read a flag that was not defined, and P a number of edges.
 ///
@@ -118,27 +125,28 @@ fn answer<F: Shelf, I: Source, O: Sink, R: Sink>(
 /// - 1: the words are no command. `usage W`, W the position of the first wrong word, from 0, or the number of words where one is
 ///   missing.
 /// - 2: a file is refused, the first in the order of the words. `refused word W K P`, with the position of its word, the
-///   refusal's number and its place in the file.
+///   refusal's number and its place in the file. `refused line Q K P` for line Q of a session.
 /// - 3: a call of an object failed, or a name is absent, or the report line could not be given. `outside shelf`,
 ///   `outside input`, `outside output` or `outside report`.
 /// - 4: memory was wanting. `memory`.
 /// - 5: the guest faulted. `fault KIND ADDRESS` and the counts of status 0.
 /// - 6: after K steps the guest still ran. `budget` and the counts of status 0.
 /// - 7: a limit is passed. `limit file 16777216` (268435456 for `run`), `limit edges 16777216` for all traces, `limit union 2000000`
-///   for what is stored as a trace, `limit blocks 65536` for `build` and `show`, `limit code 100663296` for `build`.
+///   for what is stored as a trace, `limit blocks 65536` for `build`, `show` and `session`, `limit code 100663296` for `build` and
+///   `session`, `limit traces 4096` and `limit lines 1048576` for `session`.
 ///
 /// The first cause in the order of the work decides: E comes before the traces, each file is fetched,
 /// measured, read and counted before the next, and a fault of an object stands at the call that met it. But
 /// a report line that cannot be given makes the status 3, or 4 where the sink wants memory, in place of any
 /// other. `trace` stores its file before the report line of 0, 5 and 6. After 1, 2 and 7 nothing is stored.
 /// After 4 the file may be stored, and after 3 where the report failed; where the store itself failed, what
-/// its name holds is not known. No other name changes.
+/// its name holds is not known. No other name changes. What a session stored before its last line stays.
 ///
 /// The clauses: `happened`, the calls made are those of the command's plan and no others; `exact` and `complete`, over
 /// objects that tell what they hold the answer is the expected one, unless memory is wanting or an object fails; `partial`,
 /// what an interrupted command leaves is a front part of what the whole one does; `cause`, status 3 names an object whose
 /// count rose; `steady`, a fault stands at the call that met it: the counts rise as the status says and no more; `usage`,
-/// `build`, `run`, `trace`, `merge`, `show` and `demo`, what the statuses mean.
+/// `build`, `run`, `trace`, `merge`, `show`, `demo` and `session`, what the statuses mean.
 pub fn binrec<F: Shelf, I: Source, O: Sink, R: Sink>(
     alloc: Global,
     words: &[String],
@@ -169,29 +177,33 @@ pub fn binrec<F: Shelf, I: Source, O: Sink, R: Sink>(
         (world (F.seen shelf.old) (I.seen input.old) (O.seen out.old) (R.seen report.old)) result.0
         (world (F.seen shelf.new) (I.seen input.new) (O.seen out.new) (R.seen report.new)) }
     ensures build { (name original : List ℕ) (traces : List (List ℕ))
-        → asked_by (map string_bytes words.now) ≡ Ok (Builds name original traces)
+        → command (map string_bytes words.now) ≡ Ok (Builds name original traces)
         → MeansBuild name original traces
         (world (F.seen shelf.old) (I.seen input.old) (O.seen out.old) (R.seen report.old)) result.0
         (world (F.seen shelf.new) (I.seen input.new) (O.seen out.new) (R.seen report.new)) }
-    ensures run { (steps : ℕ) (name : List ℕ) (args : List (List ℕ)) → asked_by (map string_bytes words.now) ≡ Ok (Runs steps name args)
+    ensures run { (steps : ℕ) (name : List ℕ) (args : List (List ℕ)) → command (map string_bytes words.now) ≡ Ok (Runs steps name args)
         → MeansRun steps name args (first_name (map string_bytes words.now))
         (world (F.seen shelf.old) (I.seen input.old) (O.seen out.old) (R.seen report.old)) result.0
         (world (F.seen shelf.new) (I.seen input.new) (O.seen out.new) (R.seen report.new)) }
     ensures trace { (steps : ℕ) (target original : List ℕ) (args : List (List ℕ))
-        → asked_by (map string_bytes words.now) ≡ Ok (Traces steps target original args)
+        → command (map string_bytes words.now) ≡ Ok (Traces steps target original args)
         → MeansTrace steps target original args (first_name (map string_bytes words.now) + 1)
         (world (F.seen shelf.old) (I.seen input.old) (O.seen out.old) (R.seen report.old)) result.0
         (world (F.seen shelf.new) (I.seen input.new) (O.seen out.new) (R.seen report.new)) }
     ensures merge { (target original : List ℕ) (names : List (List ℕ))
-        → asked_by (map string_bytes words.now) ≡ Ok (Merges target original names)
+        → command (map string_bytes words.now) ≡ Ok (Merges target original names)
         → MeansMerge target original names
         (world (F.seen shelf.old) (I.seen input.old) (O.seen out.old) (R.seen report.old)) result.0
         (world (F.seen shelf.new) (I.seen input.new) (O.seen out.new) (R.seen report.new)) }
-    ensures show { (original : List ℕ) (names : List (List ℕ)) → asked_by (map string_bytes words.now) ≡ Ok (Shows original names)
+    ensures show { (original : List ℕ) (names : List (List ℕ)) → command (map string_bytes words.now) ≡ Ok (Shows original names)
         → MeansShow original names
         (world (F.seen shelf.old) (I.seen input.old) (O.seen out.old) (R.seen report.old)) result.0
         (world (F.seen shelf.new) (I.seen input.new) (O.seen out.new) (R.seen report.new)) }
-    ensures demo { (count : ℕ) → asked_by (map string_bytes words.now) ≡ Ok (Demos count) → MeansDemo count
+    ensures demo { (count : ℕ) → command (map string_bytes words.now) ≡ Ok (Demos count) → MeansDemo count
+        (world (F.seen shelf.old) (I.seen input.old) (O.seen out.old) (R.seen report.old)) result.0
+        (world (F.seen shelf.new) (I.seen input.new) (O.seen out.new) (R.seen report.new)) }
+    ensures session { (original : List ℕ) → command (map string_bytes words.now) ≡ Ok (Sessions original)
+        → MeansSession original
         (world (F.seen shelf.old) (I.seen input.old) (O.seen out.old) (R.seen report.old)) result.0
         (world (F.seen shelf.new) (I.seen input.new) (O.seen out.new) (R.seen report.new)) }
 {
@@ -202,6 +214,7 @@ pub fn binrec<F: Shelf, I: Source, O: Sink, R: Sink>(
     merge_law();
     show_law();
     demo_law();
+    session_law();
     match read_command(words) {
         Ok(command) => {
             let first = first_name(words);

@@ -15,7 +15,7 @@ fn reads_the_words(rt: HostRuntime) -> Result<(), Fail> {
         (&["build", "N", "E", ""], "usage 3\n"),
         (&["build", "N", "E", "T", ""], "usage 4\n"),
         (&["show"], "usage 1\n"),
-        (&["session", "E", "F"], "usage 0\n"),
+        (&["session", "E", "F"], "usage 2\n"),
         (&["demo"], "usage 1\n"),
         (&["demo", "0"], "usage 1\n"),
         (&["demo", "1001"], "usage 1\n"),

@@ -9,6 +9,7 @@ use Rattle.top_run.specs.TracePlan.{trace_plan}
 use Rattle.top_graph.specs.MergePlan.{merge_plan}
 use Rattle.top_graph.specs.ShowPlan.{show_plan}
 use Rattle.top_demo.specs.DemoPlan.{demo_plan}
+use Rattle.top_session.specs.SessionPlan.{session_plan}
 use Rattle.binrec.specs.Words.{Fits}
 use Rattle.binrec.proofs.TopClauses.{answers_as, fits_as}
 use Rattle.binrec.proofs.top.answer.Goals as goal
@@ -93,3 +94,11 @@ returns-in-Demo g c =
     let t = world (g.F.Shelf.seen c.args.shelf.now) (g.I.Source.seen c.args.input.now) (g.O.Sink.seen c.demo_command.new.out) (g.R.Sink.seen c.tell_end-in-Demo.new.report) in
     let h : Happened (demo_plan c.in-Demo.count) s c.tell_end-in-Demo.result t = (end_of c.demo_command.result, m, c.demo_command.ensures s, (_, c.tell_end-in-Demo.ensures, refl)) in
     answers_as _ _ c.args.first s _ t c.in-Demo.is h
+
+pub returns-in-Session : goal.returns-in-Session
+returns-in-Session g c =
+    let s = world (g.F.Shelf.seen c.args.shelf.now) (g.I.Source.seen c.args.input.now) (g.O.Sink.seen c.args.out.now) (g.R.Sink.seen c.args.report.now) in
+    let m = world (g.F.Shelf.seen c.session_command-end.new.shelf) (g.I.Source.seen c.session_command-end.new.input) (g.O.Sink.seen c.session_command-end.new.out) (g.R.Sink.seen c.args.report.now) in
+    let t = world (g.F.Shelf.seen c.session_command-end.new.shelf) (g.I.Source.seen c.session_command-end.new.input) (g.O.Sink.seen c.session_command-end.new.out) (g.R.Sink.seen c.tell_end-in-Session.new.report) in
+    let h : Happened (session_plan c.in-Session.e.now) s c.tell_end-in-Session.result t = (end_of c.session_command-end.result, m, c.session_command-end.ensures s, (_, c.tell_end-in-Session.ensures, refl)) in
+    answers_as _ _ c.args.first s _ t c.in-Session.is h

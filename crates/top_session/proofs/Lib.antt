@@ -1,0 +1,12 @@
+pub mod ScriptLines
+pub mod Behind
+pub mod Sits
+pub mod LineParts
+pub mod Fronts
+pub mod SessionLeft
+pub mod SessionMeant
+pub mod Orderly
+pub mod Stored
+pub mod Checked
+pub mod OrdersRun
+pub mod LinesRun
