@@ -8,7 +8,7 @@ process (what is below that of this script, some 15 MiB, is not seen), and the r
 reference takes, so lower is better. Time for one unit that stays the same down a table is growth
 in proportion to size. The reference is built with cargo from ../shared/oracle where that folder is there.
 """
-import argparse, os, shlex, shutil, struct, subprocess, sys, tempfile
+import argparse, hashlib, os, shlex, shutil, struct, subprocess, sys, tempfile
 
 TOP = os.path.dirname(os.path.dirname(os.path.abspath(__file__)))
 START = 0x08048000
@@ -86,6 +86,26 @@ def held_loads(blocks):
     return executable(b"\xb9" + word(1) + block * blocks + EXIT, tail=4096)[0]
 
 
+def functions_file(folder):
+    """The bytes of the file E of a folder, and where the conditional jump of its first function stands."""
+    with open(os.path.join(folder, "E"), "rb") as f:
+        file = f.read()
+    at = file.index(bytes.fromhex("7802 f7d0 c3"))
+    return file, START + at
+
+
+def second_trace(folder):
+    """A trace T2 with both ways of the first function's conditional jump, of which a run takes one."""
+    file, jump = functions_file(folder)
+    pairs = struct.pack("<IIII", jump, jump + 2, jump, jump + 4)
+    with open(os.path.join(folder, "T2"), "wb") as f:
+        f.write(b"BRTRACE1" + hashlib.sha256(file).digest() + word(2) + pairs)
+
+
+# The scripts of a session, by the words that stand for them.
+SCRIPTS = {"added": "add T\n", "once": "add T\nemit N\n", "again": "add T\nemit N\nadd T2\nemit N\n"}
+
+
 # What is measured: its name, the unit, the sizes, how a size is made, and the words; what they need is made by the words before.
 LARGE = ["run", "--steps", "1", "E"]
 TABLES = [
@@ -103,6 +123,8 @@ TABLES = [
     ("build, functions", "function", [250, 1000, 4000, 16000], many_functions, ["build", "N", "E", "T"]),
     ("build, held loads", "block", [100, 400, 1600, 6400], held_loads, ["build", "N", "E", "T"]),
     ("build, backward chain", "block", [1024, 4096, 16384, 65536], backward_chain, ["build", "N", "E", "T"]),
+    ("session, one emit", "function", [250, 1000, 4000, 16000], many_functions, ["session", "E", "<once"]),
+    ("session, a second emit with one edge more", "function", [250, 1000, 4000, 16000], many_functions, ["session", "E", "<again"]),
 ]
 
 
@@ -117,9 +139,13 @@ def reference():
 
 
 def call(program, words, folder):
-    """Seconds of the processor, the most memory in bytes, status and the last line of the report."""
-    with open(os.path.join(folder, "report"), "w+b") as report:
-        child = subprocess.Popen([*program, *words], cwd=folder, stdin=subprocess.DEVNULL, stdout=subprocess.DEVNULL, stderr=report)
+    """Seconds of the processor, the most memory in bytes, status and the last line of the report. A word `<NAME` is the input's script."""
+    scripts = [SCRIPTS[w[1:]] for w in words if w.startswith("<")]
+    words = [w for w in words if not w.startswith("<")]
+    with open(os.path.join(folder, "report"), "w+b") as report, open(os.path.join(folder, "script"), "w+") as script:
+        script.write("".join(scripts))
+        script.seek(0)
+        child = subprocess.Popen([*program, *words], cwd=folder, stdin=script, stdout=subprocess.DEVNULL, stderr=report)
         _, ended, used = os.wait4(child.pid, 0)
         seconds = used.ru_utime + used.ru_stime
         child.returncode = os.waitstatus_to_exitcode(ended)
@@ -178,6 +204,14 @@ def compare(unit, size, sides, words, repeat):
     return alike and status in (0, 6)
 
 
+def second_emit(program, words, folder, repeat):
+    """How the time of the second emit, with its trace, stands to that of the first: at most a quarter is wanted."""
+    added, once, again = (measured(program, [*words[:-1], script], folder, max(repeat, 5))[0] for script in ("<added", "<once", "<again"))
+    share = (again - once) / (once - added)
+    print(f"  {'':>10} the second emit takes x{share:.2f} of the first" + ("" if share <= 0.25 else "   OVER A QUARTER"), flush=True)
+    return share <= 0.25
+
+
 def table(entry, sides, repeat):
     title, unit, sizes, make, words = entry
     print(f"{title}: {' '.join(words)}")
@@ -185,9 +219,13 @@ def table(entry, sides, repeat):
     for size in sizes:
         write_file([os.path.join(folder, "E") for _, folder in sides], make, size)
         for program, folder in sides:
-            if "T" in words and words[0] != "trace":
+            if "T" in words and words[0] != "trace" or words[0] == "session":
                 call(program, ["trace", "T", "E"], folder)
+            if words[-1] == "<again":
+                second_trace(folder)
         good = compare(unit, size, sides, words, repeat) and good
+        if words[-1] == "<again":
+            good = second_emit(sides[0][0], words, sides[0][1], repeat) and good
     return good
 
 

@@ -34,11 +34,6 @@ does() {
     done
 }
 
-# A step of a command that is not built yet: it is run as soon as the program takes it.
-does_when_built() {
-    if [ "$built" = 1 ]; then does "$@"; else told+=("$1"); fi
-}
-
 number='[0-9]+'
 does 'cc32 -o count count.c' 'accepted: count is an original, .*' "none of its $number instructions is outside the subset"
 does 'br run count < one.txt' '2 12 75' "exit 0 steps $number undefined 0"
@@ -50,19 +45,14 @@ does 'coverage count T | tail -n 1' "seen $number of $number instructions \\([0-
 does 'br build N0 count' "built 0 5 $number"
 does 'chmod +x N0'
 does './N0 < one.txt' '2 12 75'
-built=0
-if is_built build || [ "$("$(command -v br)" build N count T 2>&1 | head -n 1)" != 'usage 3' ]; then
-    built=1
-else
-    waits 'build with traces: this program takes none yet'
-fi
-does_when_built 'br build N count T' "built $number $number $number"
-does_when_built 'br run N < two.txt' '0 6 23' "exit 0 steps $number undefined $number"
-does_when_built 'chmod +x N'
-does_when_built './N < two.txt' '0 6 23'
-does_when_built './N o < one.txt' 6
+does 'br build N count T' "built $number $number $number"
+does 'br run N < two.txt' '0 6 23' "exit 0 steps $number undefined $number"
+does 'chmod +x N'
+does './N < two.txt' '0 6 23'
+does './N o < one.txt' 6
 does 'cc32 -o greet greet.c' "none of its $number instructions is outside the subset"
 does 'echo Ada | br run greet "Who is there"' 'Who is there\? Hello, Ada.' "exit 0 steps $number undefined 0"
+does "printf 'add T1\nemit N\nadd T2\nemit N\nremove 1\nemit N2\n' | br session count" 'added 1' "emitted $number $number $number made $number" 'added 2' 'removed 1' 'lines 6'
 does 'br demo 1' "demo 1 file 137 blocks 7 code $number image $number out 588139be 588139be steps 15 $number"
 
 # The page has these commands and no other.

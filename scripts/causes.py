@@ -9,12 +9,14 @@ USAGE = {
     "trace": "trace [--steps K] T E WORD..  T the trace to write, E the executable, the WORDs its arguments",
     "merge": "merge T E T..                 the first T the trace to write, E the executable, the later T the traces to join",
     "show": "show E T..                    E the executable, T its traces",
+    "session": "session E                     E the executable; the lines of the input: add NAME, remove K, emit NAME",
+    "demo": "demo K                        K the number of functions, 1 to 1000",
 }
 
 # A report line. It is the end of standard error, behind a guest's own bytes there.
 REPORT = ("exit [0-9]+ steps [0-9]+ undefined [0-9]+(?: edges [0-9]+)?|fault [a-z]+ [0-9a-f]{8} steps [0-9]+ undefined [0-9]+(?: edges [0-9]+)?|"
           "budget steps [0-9]+ undefined [0-9]+(?: edges [0-9]+)?|usage [0-9]+|refused (?:word|line) [0-9]+ [0-9]+ [0-9]+|"
-          "outside [a-z]+|limit [a-z]+ [0-9]+|memory|built [0-9]+ [0-9]+ [0-9]+|merged [0-9]+|shown [0-9]+")
+          "outside [a-z]+|limit [a-z]+ [0-9]+|memory|built [0-9]+ [0-9]+ [0-9]+|merged [0-9]+|shown [0-9]+|lines [0-9]+")
 
 # By number: the cause, and the cure.
 REFUSALS = {
@@ -38,6 +40,8 @@ REFUSALS = {
     24: ("the pairs of the trace are out of order", "the trace is damaged: make it anew with `trace`"),
     25: ("bytes follow the last pair of the trace", "the trace is damaged: make it anew with `trace`"),
     26: ("the trace has more than 2000000 pairs", "keep the pairs in several traces"),
+    31: ("the line is none of `add NAME`, `remove K`, `emit NAME` and the empty line", "one space after the word, a name of 1 to 4096 bytes, a number of 1 to 9 digits"),
+    32: ("no live trace has the number", "`added K` says which number a trace has; `remove` takes it away once"),
 }
 
 LIMITS = {
@@ -46,6 +50,8 @@ LIMITS = {
     "union": "there are more different edges than a trace may have: trace shorter runs, or give fewer traces",
     "blocks": "the traces lead to more than 65536 blocks: give fewer traces",
     "code": "the recovered code would be too large: give fewer traces",
+    "traces": "4096 traces are live: remove some, or merge traces first",
+    "lines": "a session has at most 1048576 lines: begin another one",
 }
 
 
@@ -54,7 +60,7 @@ def positions(words):
     command = words[0] if words else ""
     skipped = 2 if command in ("run", "trace") and words[1:2] == ["--steps"] else 0
     roles = {"build": ["stored", "original", "trace"], "run": ["guest", "word"], "trace": ["stored", "original", "word"],
-             "merge": ["stored", "original", "trace"], "show": ["original", "trace"]}.get(command, [])
+             "merge": ["stored", "original", "trace"], "show": ["original", "trace"], "session": ["original"]}.get(command, [])
     found = {}
     for at in range(1 + skipped, len(words)):
         found[at] = roles[min(at - 1 - skipped, len(roles) - 1)] if roles else "word"
@@ -65,6 +71,20 @@ def names_of(words, *roles):
     return [words[at] for at, role in positions(words).items() if role in roles]
 
 
+def lines_of(script):
+    """The lines of a session's script, which is a file, or None where it is not at hand."""
+    if script is None:
+        return []
+    script.seek(0)
+    return [line.rstrip(b"\n") for line in script]
+
+
+def names_in(script, word):
+    """The names behind a word of the script: `add` or `emit`."""
+    before = word.encode() + b" "
+    return [os.fsdecode(line[len(before):]) for line in lines_of(script) if line.startswith(before)]
+
+
 # ---- Usage ----
 
 def wrong_word(words, at):
@@ -72,17 +92,19 @@ def wrong_word(words, at):
     word = words[at]
     length = len(os.fsencode(word))
     if at == 0:
-        return f"there is no command `{word}`, or this program does not have it yet"
+        return f"there is no command `{word}`"
     if not is_text(word):
         return f"word {at} is not UTF-8"
     if at == 2 and words[1] == "--steps":
         return f"`{word}` is no number of steps: 1 to 18 decimal digits"
+    if words[0] == "demo" and at == 1:
+        return f"`{word}` is no number from 1 to 1000"
+    if words[0] in ("session", "demo") and at == 2:
+        return "word 2 is one too many"
     if positions(words)[at] == "word":
         return f"word {at} is one too many: a guest has at most 256 words, and 65536 bytes with a zero byte each"
     if length == 0 or length > 4096:
         return f"word {at} has {length} bytes, and a name has 1 to 4096"
-    if words[0] == "build" and at == 3:
-        return "this program builds without traces only"
     return f"word {at}, `{word}`, is wrong"
 
 
@@ -127,11 +149,24 @@ def finer(number, place, data):
 
 def explain_refusal(words, report):
     _, _, at, number, place = report.split()
-    name = words[int(at)]
-    cause, cure = REFUSALS.get(int(number), ("it is refused", "docs/USING.md has the numbers"))
+    return refusal_lines(words[int(at)], int(number), place)
+
+
+def explain_line(script, report):
+    """What a refused line of a session's script asked, as far as the script is at hand."""
+    _, _, at, number, place = report.split()
+    lines = lines_of(script)[int(at) - 1:int(at)]
+    asked = os.fsdecode(lines[0][:80]) if lines else "(not at hand)"
+    name = asked[4:] if asked.startswith("add ") and int(number) < 31 else f"line {at}"
+    return [f"line {at}: {asked}", *refusal_lines(name, int(number), place)]
+
+
+def refusal_lines(name, number, place):
+    """The cause and the cure of a refusal of this number, of a file or a line."""
+    cause, cure = REFUSALS.get(number, ("it is refused", "docs/USING.md has the numbers"))
     try:
-        more = finer(int(number), int(place), executables.read(name))
-    except OSError:
+        more = finer(number, int(place), executables.read(name)) if number < 31 else None
+    except (OSError, ValueError):
         more = None
     return [f"{name}: {cause}{': ' + more if more else ''} (number {number}, at {place})", f"cure: {cure}"]
 
@@ -165,9 +200,9 @@ def store_trouble(name):
     return None
 
 
-def explain_shelf(words):
-    read = names_of(words, "original", "guest", "trace")
-    stored = names_of(words, "stored")
+def explain_shelf(words, script):
+    read = names_of(words, "original", "guest", "trace") + names_in(script, "add")
+    stored = names_of(words, "stored") + names_in(script, "emit")
     troubles = [executables.file_trouble(name) for name in read] + [store_trouble(name) for name in stored]
     found = [trouble for trouble in troubles if trouble]
     if found:
@@ -191,10 +226,10 @@ def descriptor_trouble(descriptor):
     return "failed"
 
 
-def explain_outside(words, report):
+def explain_outside(words, report, script):
     what = report.split()[1]
     if what == "shelf":
-        return explain_shelf(words)
+        return explain_shelf(words, script)
     if what == "input":
         return ["standard input " + descriptor_trouble(0), "cure: give an input, as `< FILE` or `< /dev/null`"]
     if what == "output":
@@ -256,14 +291,15 @@ def undefined(words, report):
     return [f"{found[1]} steps read a flag that an instruction left undefined: the run is not well defined, and nothing is promised for it"]
 
 
-def explain(words, status, report):
-    """The lines that explain a status and its report line."""
+def explain(words, status, report, script=None):
+    """The lines that explain a status and its report line; of a session, with its script where that is at hand."""
     if status == 0:
         return undefined(words, report)
     explainers = [
         (r"usage \d+", lambda: explain_usage(words, report)),
         (r"refused word \d+ \d+ \d+", lambda: explain_refusal(words, report)),
-        (r"outside (shelf|input|output|report)", lambda: explain_outside(words, report)),
+        (r"refused line \d+ \d+ \d+", lambda: explain_line(script, report)),
+        (r"outside (shelf|input|output|report)", lambda: explain_outside(words, report, script)),
         (r"memory", lambda: ["no memory: the process may have too little (ulimit -v), or the machine has"]),
         (r"fault [a-z]+ [0-9a-f]{8}( .*)?", lambda: explain_fault(words, report) + undefined(words, report)),
         (r"budget .*", lambda: ["the steps were used up: give more by --steps K (100000000 without it)"] + undefined(words, report)),

@@ -5,14 +5,14 @@ usage: br [--force] [--where] COMMAND WORD..      as the command of the program
 
 Words and streams go to the program unchanged, and br ends with its status. Before that it refuses, with status 8, to replace a file
 that nobody can make again: a name that is written must be free, empty, a trace of the same executable (trace, merge), or a file that
-BinRec wrote (build). After that it says on standard error, behind the program's report, what a status other than 0 means and what to do.
+BinRec wrote (build, session). So it reads the script of a session to its end first, unless somebody types it. After that it says on standard error, behind the program's report, what a status other than 0 means and what to do.
 
 --force    replaces whatever there is.
 --where    after `fault` of run: the instruction that faulted, by gdb on the processor. The input is read to its end first.
 
 The program is $BINREC, or crates/binrec/out/binrec, or `binrec` of the PATH. Without one br ends with 127.
 """
-import os, re, shutil, signal, subprocess, sys, tempfile
+import fcntl, os, re, shutil, signal, subprocess, sys, tempfile
 
 import causes
 import executables
@@ -57,22 +57,26 @@ def trace_loss(name, held, words):
     return None
 
 
-def loss(words):
-    """Why the command would lose a file, or None."""
-    stored, originals = causes.names_of(words, "stored"), causes.names_of(words, "original")
-    if not stored or not originals:
-        return None
-    name = stored[0]
+def name_loss(name, original, words):
+    """Why a file would be lost under a name that is stored, or None."""
     held = content(name)
     if not held:
         return None
-    if same_file(name, originals[0]):
-        return f"{name} is the executable itself, and would be replaced"
-    if words[0] == "build":
+    if same_file(name, original):
+        why = "is the executable itself"
+    elif words[0] in ("build", "session"):
         why = None if executables.is_recompiled(held) else "is no file that BinRec wrote"
     else:
         why = trace_loss(name, held, words)
     return why and f"{name} {why}, and would be replaced"
+
+
+def loss(words, script):
+    """Why the command would lose a file, or None."""
+    originals = causes.names_of(words, "original")
+    stored = causes.names_of(words, "stored") + causes.names_in(script, "emit")
+    found = (name_loss(name, originals[0], words) for name in stored if originals)
+    return next(filter(None, found), None)
 
 
 def agreed(question):
@@ -84,9 +88,9 @@ def agreed(question):
     return sys.stdin.readline().strip().lower() in ("y", "yes")
 
 
-def refusal(words):
+def refusal(words, script):
     """Why br does not run the command, or None."""
-    why = loss(words)
+    why = loss(words, script)
     if why:
         return why
     if words[0] == "merge" and len(words) == 3 and not agreed("merge of no traces stores an empty trace; go on?"):
@@ -142,13 +146,38 @@ def report_of(tail):
     return found[1].decode() if found else ""
 
 
-def explain(words, status, report):
+def explain(words, status, report, script=None):
     if status < 0:
         say(f"the program was ended by {signal.Signals(-status).name}; a trace that was being made is lost, so choose --steps and get it in parts")
         return 128 - status
-    for line in causes.explain(words, status, report):
+    for line in causes.explain(words, status, report, script):
         say(line)
     return status
+
+
+def file_above_streams():
+    """A file without a name, whose descriptor is none of the standard streams, also where one of these is closed."""
+    with tempfile.TemporaryFile() as low:
+        return os.fdopen(fcntl.fcntl(low.fileno(), fcntl.F_DUPFD_CLOEXEC, 3), "w+b")
+
+
+def script_of(words):
+    """The script of a session, read to its end into a file; None for other commands, where somebody types, and where it cannot be read."""
+    if words[:1] != ["session"] or os.isatty(0):
+        return None
+    try:
+        os.fstat(0)
+        kept = file_above_streams()
+        shutil.copyfileobj(sys.stdin.buffer, kept)
+    except OSError:
+        return None
+    return kept
+
+
+def rewound(script):
+    if script is not None:
+        script.seek(0)
+    return script
 
 
 def run_where(program, words):
@@ -206,17 +235,25 @@ def main():
     if words == ["--version"]:
         version(program)
         return 0
-    why = words and "--force" not in chosen and refusal(words)
+    return guarded(program, words, chosen, script_of(words))
+
+
+def guarded(program, words, chosen, script):
+    """Runs the command unless it would lose a file, and explains how it ended."""
+    why = words and "--force" not in chosen and refusal(words, script)
     if why:
         say(f"{why}; nothing was done (--force does it)")
         return REFUSED
     if "--where" in chosen and words[:1] == ["run"]:
         return run_where(program, words)
+    source = rewound(script)
     try:
         os.fstat(2)
     except OSError:
+        if source is not None:
+            os.dup2(source.fileno(), 0)
         os.execv(program, [program, *words])
-    return explain(words, *run(program, words))
+    return explain(words, *run(program, words, source), script)
 
 
 if __name__ == "__main__":

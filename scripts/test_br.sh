@@ -61,6 +61,30 @@ loss_rows() {
     if [ ! -e new ]; then pass; else fail 'merge of no traces stored a file'; fi
 }
 
+# NAME STATUS PATTERN SCRIPT: as `told`, of a session over E that follows the script.
+session_told() {
+    printf "$4" > script
+    input=script
+    told "$1" "$2" "$3" session E
+    input=
+}
+
+session_rows() {
+    session_told 'a session' 0 '^lines 3$' 'add T\nemit S\nremove 1\n'
+    session_told 'a session over a file that BinRec wrote' 0 '^lines 1$' 'emit S\n'
+    session_told 'a session over the executable' 8 'E is the executable itself' 'add T\nemit E\n'
+    session_told 'a session over another file' 8 'notes is no file that BinRec wrote' 'emit S\nemit notes'
+    session_told 'a line that is none' 2 'line 2: drop 1' 'add T\ndrop 1\n'
+    session_told 'a number that is not live' 2 'no live trace has the number' 'remove 1\n'
+    session_told 'a trace of another executable in a session' 2 'alien: the trace is of another executable' 'add alien\n'
+    session_told 'an absent trace in a session' 3 'there is no file absent' 'add absent\n'
+    printf 'add T\nemit S\n' | "$br" session E > got.out 2> got.err
+    judge 'a session through a pipe' 0 '^lines 2$' $? got.err
+    "$br" session E > got.out 2> got.err <&-
+    judge 'a session without an input' 3 'standard input is closed' $? got.err
+    if [ "$(cat notes)" = 'my notes' ]; then pass; else fail 'a session changed another file'; fi
+}
+
 leave_rows() {
     told 'trace over a trace of it' 0 '^exit 0 steps 8 undefined 0 edges 1$' trace T E
     told 'merge that keeps what it stores under' 0 '^merged 1$' merge T E T T2
@@ -77,6 +101,8 @@ mistake_rows() {
     told 'no words' 1 'word 0 is missing'
     told 'an unknown command' 1 'there is no command `frob`' frob E
     told 'a missing word' 1 'word 2 is missing' trace T
+    told 'a demonstration without functions' 1 '`0` is no number from 1 to 1000' demo 0
+    told 'a session with a further word' 1 'word 2 is one too many' session E F
     told 'an empty name' 1 'word 1 has 0 bytes' show ''
     told 'steps that are no number' 1 '`x` is no number of steps' run --steps x E
     told 'too many words' 1 'at most 256 words' run E $(seq 257)
@@ -186,6 +212,7 @@ chmod +x zero
 find_native ./zero
 loss_rows
 leave_rows
+session_rows
 mistake_rows
 permission_rows
 fault_rows

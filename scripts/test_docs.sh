@@ -37,7 +37,7 @@ names() {
 crates() {
     local crate
     for crate in $(sed -n 's/^\([a-z_0-9]*\):.*/\1/p' crates.txt); do
-        grep -q "^|.*\`$crate\`.*|" docs/PROVED.md || waits "docs/PROVED.md: it has no row for $crate yet"
+        holds "docs/PROVED.md has a row for $crate" grep -q "^|.*\`$crate\`.*|" docs/PROVED.md
     done
     for crate in $(sed -n 's/^| \(`[a-z_`, ]*`\) |.*/\1/p' docs/PROVED.md | tr -d '`,'); do
         holds "docs/PROVED.md has a row for $crate, which is no crate" grep -q "^$crate:" crates.txt
