@@ -109,4 +109,5 @@ LinesHold code limit home place last = (ps : List (ℕ × Line)) (s : State) (e 
 
 -- homes are laid apart from places of lines, whichever each line has
 abbrev pub HomesServe : Type 0
-HomesServe = (limit : ℕ) (place : ℕ → Place) → ((j : ℕ) → j < limit → (k : ℕ) × (k < 2048) × (place j ≡ place_of k)) → Laid limit home_of place
+HomesServe = (limit : ℕ) (place : ℕ → Place) → ((j : ℕ) → j < limit → (k : ℕ) × (k < 2048) × (place j ≡ place_of k))
+    → Laid limit home_of place
