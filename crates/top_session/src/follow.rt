@@ -1,6 +1,5 @@
 //! The lines of a script, one after another.
 ghost use Rattle.std.specs.Prelude.{◌≡◌, ◌≤◌, ◌+◌, []};
-ghost use Rattle.trace_set.specs.declared.error.TheConstants.{ADDITION_LIMIT};
 ghost use Rattle.script_text.specs.Lines.{order_of};
 ghost use Rattle.line_reader.specs.Reads.{unread};
 ghost use Rattle.top_plan.specs.World.{World};
