@@ -1,5 +1,6 @@
 -- The image of an original and edges does what the original does.
-use Rattle.std.proofs.Common.{ℕ, ◌≤◌, List, length, ⊎_elim}
+use Rattle.std.proofs.Common.{ℕ, ◌≤◌, List, [], length, subst, ⊎_elim}
+use Rattle.std.proofs.lemmas.List.{append-nil}
 use Rattle.br_word.specs.Memory.{AreBytes}
 use Rattle.elf_read.specs.declared.exe.Exe.{Exe}
 use Rattle.elf_read.specs.declared.exe.Reach.TheVariants.{Original}
@@ -35,7 +36,7 @@ pub record Parts : Type 0 where
 -- where segments are of bytes, the image has what the simulation asks for
 pub image_laws : Parts → (exe : Exe) (edges : List Edge) → IsOriginal exe → HaveBytes exe → IsEdges edges
     → length (graph_of exe edges) ≤ MAX_BLOCKS → length (code_of exe edges) ≤ MAX_CODE
-    → promised.Laws exe edges (image exe edges) (coded_of exe edges)
+    → promised.Laws exe edges [] (image exe edges) (coded_of exe edges)
 image_laws parts exe edges original h set few room =
     let guest = original_is_guest exe original in
     parts.meet exe edges original h room
@@ -58,8 +59,9 @@ pub image_law : Parts → ImageLaw
 image_law parts file exe edges e set few room =
     let a = accepted file exe e in
     let both : Preserves file (image exe edges) × Covers file (image exe edges) edges = ⊎_elim
-    (λ (h : AreBytes file). parts.preserve file exe edges (image exe edges) (coded_of exe edges) e
-    (image_laws parts exe edges a.fields (segments_of_bytes Original file exe h e) set few room))
+    (λ (h : AreBytes file). let both = parts.preserve file exe edges [] (image exe edges) (coded_of exe edges) e
+    (image_laws parts exe edges a.fields (segments_of_bytes Original file exe h e) set few room) in
+    (both.0, subst (Covers file (image exe edges)) (append-nil edges) both.1))
     (λ (wrong : AreBytes file → ⊥). no_runs parts.laid file exe edges a.fields room wrong)
     (bytes_or_not file) in
     (a.as_guest, both.0, both.1)

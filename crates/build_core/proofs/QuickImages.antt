@@ -48,9 +48,9 @@ image_quick quick reaches file exe edges e set few room exits know words input c
     by : (n : ℕ) → IsWellDefinedRun file words input n → IsQuick exe edges exits
         → (r : ReachesAt file (image exe edges) words input choices n) × (r.steps ≤ most_steps exits * n)
     by zero d q =
-        let r = reaches file exe edges (image exe edges) (coded_of exe edges) e q.laws words input choices are 0 d in
+        let r = reaches file exe edges [] (image exe edges) (coded_of exe edges) e q.laws words input choices are 0 d in
         let z = at_once file (image exe edges) words input choices r.0 in
         (z.0, omega (arith, z.1))
     by (suc m) d q =
-        let r = reaches file exe edges (image exe edges) (coded_of exe edges) e q.laws words input choices are (suc m) d in
+        let r = reaches file exe edges [] (image exe edges) (coded_of exe edges) e q.laws words input choices are (suc m) d in
         (r.0, subst (λ most. r.0.steps ≤ most * suc m) (all_most exits) (within (fragment_steps exits) q.laws.top q.laws.high m r.0.steps q.top q.high r.1))

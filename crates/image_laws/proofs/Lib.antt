@@ -9,6 +9,7 @@ mod Islands
 mod Laying
 mod Leading
 mod Exchanging
+mod NoCopies
 mod Meeting
 mod Making
 mod InstBytes

@@ -68,6 +68,7 @@ fragments_made laws exe edges bytes room small made =
     λ x start plain. laws.joined exe edges (key_at exe edges x) (lift_of exe x) (record { distinct = (made x start plain).exits; known = first_of_each (live_of exe edges) (known_of exe (counting exe edges) x) }) (laws.serve exe edges x bytes start plain).kind in
     record {
       pieces = pieces;
+      literal = λ x y. refl;
       linked = λ x start plain. let m = made x start plain in subst (IsLinked c.code c.address (c.address x)) (parts x start plain) (laws.stands.fragment exe edges x start m.valid m.labels);
       run = λ x p t a start plain serves runs.
           let is = fragment_items exe edges (coding_at exe edges x) (pieces x) x in

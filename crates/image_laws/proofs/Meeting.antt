@@ -8,6 +8,7 @@ use Rattle.image_laws.specs.Serves.{CodingsServe}
 use Rattle.image_laws.specs.Laid.{ImagesLaid, ImagesHold}
 use Rattle.image_laws.specs.Exchanged.{StatesExchanged}
 use Rattle.image_laws.specs.Law.{ImagesMeet, ImagesMade}
+use Rattle.image_laws.proofs.NoCopies.{no_copies, none_further}
 
 pub record Parts : Type 0 where
   pub stands : CodeStands
@@ -21,6 +22,7 @@ images_meet parts exe edges plain original bytes room few runs =
     let long = parts.hold exe edges in
     record {
       plain = plain;
+      turn = 0;
       opening = 31;
       closing = 17;
       top = 17;
@@ -28,9 +30,11 @@ images_meet parts exe edges plain original bytes room few runs =
       serves = λ x start native. parts.serve exe edges x bytes start native;
       fragment = runs;
       exchange = parts.exchanged exe edges original room;
+      copies = no_copies exe edges;
+      met = none_further exe edges;
       laid = parts.laid exe edges original room;
       high = length (image exe edges);
-      plain_bound = few;
+      plain_bound = omega (arith, few);
       island_bound = omega (arith, long);
       high_bound = omega arith;
       top_bound = omega (arith, long);

@@ -42,6 +42,7 @@ use Rattle.image_laws.specs.Valid.{CodeIsBytes}
 use Rattle.image_laws.specs.Quick.{KnowAtMost, fragment_steps, FragmentsQuick, IsQuick, ImagesQuick}
 use Rattle.image_laws.proofs.Meeting.{Parts}
 use Rattle.image_laws.proofs.Making.{Makes, fragments_made, same_pieces}
+use Rattle.image_laws.proofs.NoCopies.{no_copies, none_further}
 
 -- ---- pieces
 
@@ -164,6 +165,7 @@ quick_at : Parts → (exe : Exe) (edges : List Edge) (exits plain high : ℕ) �
 quick_at parts exe edges exits plain high original bytes room runs enough some below most = record {
   laws = record {
     plain = plain;
+    turn = 0;
     opening = OPENING_STEPS;
     closing = CLOSING_STEPS;
     top = ENTRY_STEPS;
@@ -171,9 +173,11 @@ quick_at parts exe edges exits plain high original bytes room runs enough some b
     serves = λ x start native. parts.serve exe edges x bytes start native;
     fragment = runs;
     exchange = parts.exchanged exe edges original room;
+    copies = no_copies exe edges;
+    met = none_further exe edges;
     laid = parts.laid exe edges original room;
     high = high;
-    plain_bound = enough;
+    plain_bound = omega (arith, enough);
     island_bound = omega (arith, some);
     high_bound = below;
     top_bound = omega (arith, some, below);

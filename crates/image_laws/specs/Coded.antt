@@ -1,5 +1,5 @@
 -- The recovered code of an executable and edges, in the simulation's words.
-use Rattle.std.specs.Prelude.{ℕ, ◌+◌, List}
+use Rattle.std.specs.Prelude.{ℕ, ◌+◌, false, List}
 use Rattle.elf_read.specs.declared.exe.Exe.{Exe}
 use Rattle.elf_read.specs.Regions.{region_of}
 use Rattle.ia_encode.specs.declared.item.Item.{Item}
@@ -35,7 +35,8 @@ entry_of exe edges = entry_items exe.entry (has_key (keys_of exe edges) exe.entr
 abbrev pub address_of : Exe → List Edge → ℕ → ℕ
 address_of exe edges = address_in (first_at (entry_of exe edges)) (fragments_of exe (keys_of exe edges))
 
--- the recovered code; the own bytes of a native instruction stand behind the way into it
+-- the recovered code; the own bytes of a native instruction stand behind the way into it, no other instruction is
+-- copied, and an exit that is not known leads to the original
 abbrev pub coded_of : Exe → List Edge → Coded
 coded_of exe edges = record {
   code = region_of (code_segment (code_of exe edges));
@@ -43,6 +44,11 @@ coded_of exe edges = record {
   live = λ x v. has (live_of exe edges x) v;
   address = address_of exe edges;
   native = λ x. address_of exe edges x + size_of_items (opening_items register_homes 0);
+  cold = λ x. false;
+  copied = λ x. 0;
+  original = λ x k. x;
+  copy = λ x k. 0;
+  beyond = λ x y. y;
 }
 
 -- what was chosen of the block of a start, as a coding

@@ -1,5 +1,5 @@
 -- How many steps the parts of a written file take.
-use Rattle.std.specs.Prelude.{◌≡◌, ℕ, ◌+◌, ◌*◌, ◌<◌, ◌≤◌, true, false, List, length, get_or, All}
+use Rattle.std.specs.Prelude.{◌≡◌, ℕ, ◌+◌, ◌*◌, ◌<◌, ◌≤◌, true, false, List, [], length, get_or, All}
 use Rattle.elf_read.specs.declared.exe.Exe.{Exe}
 use Rattle.elf_read.specs.Elf.{IsOriginal}
 use Rattle.run_model.specs.Edges.{Edge}
@@ -37,7 +37,7 @@ FragmentsQuick = (exe : Exe) (edges : List Edge) (exits : ℕ) → HaveBytes exe
 
 -- the bounds of what the simulation asks for: at the entry, and of a fragment or a native instruction
 pub record IsQuick (exe : Exe) (edges : List Edge) (exits : ℕ) : Type 0 where
-  pub laws : Laws exe edges (image exe edges) (coded_of exe edges)
+  pub laws : Laws exe edges [] (image exe edges) (coded_of exe edges)
   pub top : laws.top ≤ 64
   pub high : laws.high ≤ fragment_steps exits
 

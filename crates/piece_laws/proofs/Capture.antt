@@ -113,7 +113,7 @@ module _ (homes : Homes) (plan : Plan) (dest : Dest → ℕ) (meet : HomesMeet h
   abbrev first : State → List ℕ → List Region → Cells
   first t own outer = record { cell = own_cell t own; flags = t.cpu.flags; marks = t.cpu.marks; df = t.cpu.df; outer = outer; seen = observed t; brk_start = t.brk_start; brk = t.brk }
 
-  first_seen : (t : State) (outer : List Region) (c : Capturable plan outer t) → Sees plan.code t (first t c.own outer)
+  pub first_seen : (t : State) (outer : List Region) (c : Capturable plan outer t) → Sees plan.code t (first t c.own outer)
   unfolding own_cell
   first_seen t outer c = record {
     own = c.own;

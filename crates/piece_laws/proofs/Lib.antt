@@ -1,3 +1,6 @@
+-- For the crates above:
+pub mod Capture
+
 mod Checked
 mod Named
 mod Placing
@@ -9,5 +12,4 @@ mod Way
 mod Whole
 mod Joined
 mod Suited
-mod Capture
 mod Parted

@@ -18,16 +18,17 @@ use Rattle.run_model.specs.Edges.{Edge, edge_of, edges_from}
 use Rattle.block_cut.specs.declared.ends.End.{End}
 use Rattle.block_cut.specs.declared.ends.End.TheVariants.{Transfer, Island, BeforeIsland, Unreadable, Full}
 use Rattle.block_cut.specs.Places.{Placed, found_at}
-use Rattle.block_cut.specs.Blocks.{size_of, StandFrom, EndsSo, IsBlock, block_of, is_followed, next_of, follow_of, EachHasOneBlock}
+use Rattle.block_cut.specs.Blocks.{last_of, size_of, StandFrom, EndsSo, IsBlock, block_of, is_followed, next_of, follow_of, EachHasOneBlock}
 use Rattle.block_cut.specs.CountedEdges.{counting}
 use Rattle.flow_graph.specs.Graph.{known_of}
 use Rattle.sim_laws.specs.Covers.{AllIn}
 use Rattle.sim_laws.specs.KnownExits.{LeavesByKnown, LeavesNative}
+use Rattle.sim_laws.specs.Through.{Comes}
 use Rattle.sim_runs.specs.Forward.{AllGood}
 use Rattle.sim_runs.specs.Whole.{IsKept}
 use Rattle.sim_runs.specs.Promised.{IsOf}
 use Rattle.sim_runs.specs.Recovered.{is_island_end, first_inst, knows_of}
-use Rattle.sim_runs.proofs.Known.{to_among, none, is_transfer_end, known_other}
+use Rattle.sim_runs.proofs.Known.{to_among, none, is_transfer_end, known_other, known_or}
 
 no_truth : {X : Type 0} → false ≡ true → X
 no_truth e = cc
@@ -136,12 +137,17 @@ module _ (one : EachHasOneBlock) (exe : Exe) where
       let P : List ℕ → Type 0 = λ ks. Contains ks y in
       none y (subst P (known_other exe [] s.eip t ∙ ap option_to_list (no_follow s.eip e)) k)
 
--- where its edges were recorded, a run does not leave a block by an exit that is not known
-pub left_never : LeavesByKnown → (exe : Exe) → IsGuest exe → (edges : List Edge) (s : State) → IsOf exe s → s.stop ≡ Running → is_island_end (block_of exe s.eip).end ≡ false → AllGood (IsKept edges) (length (block_of exe s.eip).insts) s → knows_of exe edges s.eip (run (length (block_of exe s.eip).insts) s []).eip ≡ false → IsWellDefined (run (length (block_of exe s.eip).insts) s []) → ⊥
-left_never leaves exe guest edges s h r pl g u f =
+-- where its edges are of these, a run leaves a block by an exit that is not known only by one of the further ones
+pub left_never : LeavesByKnown → (exe : Exe) → IsGuest exe → (edges further : List Edge) (s : State) → IsOf exe s → s.stop ≡ Running → is_island_end (block_of exe s.eip).end ≡ false → AllGood (IsKept (edges ++ further)) (length (block_of exe s.eip).insts) s → knows_of exe edges s.eip (run (length (block_of exe s.eip).insts) s []).eip ≡ false → IsWellDefined (run (length (block_of exe s.eip).insts) s [])
+    → Comes exe s (run (length (block_of exe s.eip).insts) s []) × ((block_of exe s.eip).end ≡ Transfer) × Contains further (last_of s.eip (block_of exe s.eip).insts, (run (length (block_of exe s.eip).insts) s []).eip)
+left_never leaves exe guest edges further s h r pl g u f =
     let n = length (block_of exe s.eip).insts in
-    let k = (leaves exe edges s guest h.state r (not_native (block_of exe s.eip).end pl) (kept_defined edges n s g) f (kept_edges edges n s g)).1 in
-    true≢false (sym (to_among (known_of exe (counting exe edges) s.eip) (run n s []).eip k) ∙ u)
+    let es = edges ++ further in
+    let l = leaves exe es s guest h.state r (not_native (block_of exe s.eip).end pl) (kept_defined es n s g) f (kept_edges es n s g) in
+    ⊎_elim
+    (λ (k : Contains (known_of exe (counting exe edges) s.eip) (run n s []).eip). absurd (true≢false (sym (to_among (known_of exe (counting exe edges) s.eip) (run n s []).eip k) ∙ u)))
+    (λ (k : ((block_of exe s.eip).end ≡ Transfer) × Contains further (last_of s.eip (block_of exe s.eip).insts, (run n s []).eip)). (l.0, k.0, k.1))
+    (known_or exe edges further s.eip (run n s []).eip l.1)
 
 -- behind a native instruction stands a known exit, or nothing runs there
 pub native_follows : LeavesNative → HasBytes → (exe : Exe) → IsGuest exe → (edges : List Edge) (s : State) (i : Inst) (n : ℕ) → IsOf exe s → s.stop ≡ Running → is_island_end (block_of exe s.eip).end ≡ true → found_at exe s.eip ≡ There i n → knows_of exe edges s.eip (wrap (s.eip + n)) ≡ false → IsWellDefined s → (step s 0).stop ≡ Running → (step s 0).eip ≡ wrap (s.eip + n) → IsWellDefined (step s 0) → ⊥

@@ -1,5 +1,5 @@
 -- From the promises of the parts to behaviour preservation and coverage.
-use Rattle.std.proofs.Common.{◌≡◌, ◌≢◌, ℕ, zero, suc, ◌+◌, ◌*◌, ◌^◌, ◌<◌, ◌≤◌, true, false, ◌&&◌, List, [], ◌∷◌, length, Contains, refl, sym, ap, ◌∙◌, subst, arith, mul-le-mul_right, ⊎_elim, ◌⊎◌, inl, inr, Some}
+use Rattle.std.proofs.Common.{◌≡◌, ◌≢◌, ℕ, zero, suc, ◌+◌, ◌*◌, ◌^◌, ◌<◌, ◌≤◌, true, false, ◌&&◌, List, [], ◌∷◌, ◌++◌, length, Contains, refl, sym, ap, ◌∙◌, subst, arith, mul-le-mul_right, ⊎_elim, ◌⊎◌, inl, inr, Some}
 use Rattle.std.specs.Prelude.{Ok, nat_le, nat_lt}
 use Rattle.std.proofs.lemmas.Bool.{cases_lt, leb-true, true≢false}
 use Rattle.br_word.specs.State.{State, Running, CF, PF, ZF, SF, OF}
@@ -15,9 +15,9 @@ use Rattle.ia_inst.specs.Step.{step, IsWellDefined}
 use Rattle.run_model.specs.Opening.{arguments, opening, opening_of, exe_or_none, guest_of}
 use Rattle.run_model.specs.Run.{AreOfBytes, observed, observed_of, run, run_of, WellDefined, IsWellDefinedRun}
 use Rattle.run_model.specs.Edges.{Edge, edges_from}
-use Rattle.block_cut.specs.declared.ends.End.TheVariants.{Island}
+use Rattle.block_cut.specs.declared.ends.End.TheVariants.{Transfer, Island}
 use Rattle.block_cut.specs.Places.{found_at}
-use Rattle.block_cut.specs.Blocks.{block_of, EachHasOneBlock}
+use Rattle.block_cut.specs.Blocks.{last_of, block_of, EachHasOneBlock}
 use Rattle.flow_graph.specs.GraphOf.{OneGraph}
 use Rattle.lift_laws.specs.BlockMeans.{Gives, BlockMeans, BlocksAreQuiet}
 use Rattle.lift_flow.specs.LiftedBlock.{lift_of}
@@ -27,24 +27,26 @@ use Rattle.ssa_form.specs.Value.{outs_of}
 use Rattle.sim_laws.specs.ByKind.{IsQuiet, EachGoesByKind}
 use Rattle.sim_laws.specs.InCode.{IsStateOf, StaysInCode, StepsInCode}
 use Rattle.sim_laws.specs.KnownExits.{LeavesByKnown, LeavesNative}
+use Rattle.sim_laws.specs.Through.{Comes}
 use Rattle.sim_laws.specs.Wider.{RunsWider}
 use Rattle.sim_laws.specs.Preserves.{ReachesAt, Preserves}
 use Rattle.sim_laws.specs.Covers.{AllIn, IsOutside, Covers}
 use Rattle.sim_runs.specs.Forward.{AllGood, Moves}
 use Rattle.sim_runs.specs.Whole.{IsKept, Begun}
 use Rattle.sim_runs.specs.Relation.{Plan, Related}
-use Rattle.sim_runs.specs.Laws.{Original as Static_laws, Laid, Starts, PlainLaws, IslandLaws}
+use Rattle.sim_runs.specs.Laws.{Original as Static_laws, Laid, Starts, PlainLaws, IslandLaws, IsIndirect}
 use Rattle.sim_runs.specs.Leaving.{Anything, IsBelow}
 use Rattle.sim_runs.specs.Image.{Opening}
 use Rattle.sim_runs.specs.Recovered.{Coded, is_island_end, is_start_of, knows_of, plan_of}
 use Rattle.sim_runs.specs.Promised.{IsOf, laid_exe, Laws}
 use Rattle.sim_runs.proofs.High.{high_on}
-use Rattle.sim_runs.proofs.Known.{and_inv, entry_starts, known_starts}
+use Rattle.sim_runs.proofs.Known.{and_inv, in_either, entry_starts, known_starts}
 use Rattle.sim_runs.proofs.Blocks.{to_defined, not_native, few, one_native, empty_runs, left_never, native_follows}
 use Rattle.sim_runs.proofs.Natives.{native_placeless, native_near, native_df, run_start}
 use Rattle.sim_runs.proofs.Openings.{opening_high, opens}
 use Rattle.sim_runs.proofs.Whole.{all_fine, all_keep, begun}
 use Rattle.sim_runs.proofs.Image.{moves, simulated, fine_claim, kept_claim}
+use Rattle.sim_runs.proofs.Indirect.{indirect_met}
 
 -- the laws below that the simulation stands on
 pub record Below : Type 0 where
@@ -84,7 +86,7 @@ outside_low a [] h n = tt
 outside_low a (s ∷ ss) h n =
     ((λ e. n (let q = leb-true s.start a (and_inv (nat_le s.start a) (nat_lt a (s.start + s.size)) e).0 in let l = h.0.low in omega (arith, q, l))), outside_low a ss h.1 n)
 
-module _ (below : Below) (e : List ℕ) (exe : Exe) (ok : elf Original e ≡ Ok exe) (edges : List Edge) (file : List ℕ) (c : Coded) (laws : Laws exe edges file c) where
+module _ (below : Below) (e : List ℕ) (exe : Exe) (ok : elf Original e ≡ Ok exe) (edges further : List Edge) (file : List ℕ) (c : Coded) (laws : Laws exe edges further file c) where
   abbrev plan : Plan
   plan = plan_of exe edges c
 
@@ -181,20 +183,41 @@ module _ (below : Below) (e : List ℕ) (exe : Exe) (ok : elf Original e ≡ Ok 
 
   -- ---- from block to block
 
-  never : (x : ℕ) (s : State) → Starts plan (IsOf exe) x s → AllGood (IsKept edges) (plan.count x) s → plan.knows x (run (plan.count x) s []).eip ≡ false → IsWellDefined (run (plan.count x) s []) → ⊥
-  never x s h g u f =
-      let P : ℕ → Type 0 = λ y. AllGood (IsKept edges) (length (block_of exe y).insts) s in
+  abbrev set : List Edge
+  set = edges ++ further
+
+  never : (x : ℕ) (s : State) → Starts plan (IsOf exe) x s → AllGood (IsKept set) (plan.count x) s → plan.knows x (run (plan.count x) s []).eip ≡ false → plan.beyond x (run (plan.count x) s []).eip ≡ (run (plan.count x) s []).eip → IsWellDefined (run (plan.count x) s []) → ⊥
+  never x s h g u near f =
+      let P : ℕ → Type 0 = λ y. AllGood (IsKept set) (length (block_of exe y).insts) s in
       let U : ℕ → Type 0 = λ y. knows_of exe edges y (run (length (block_of exe y).insts) s []).eip ≡ false in
       let F : ℕ → Type 0 = λ y. IsWellDefined (run (length (block_of exe y).insts) s []) in
-      left_never below.leaves exe guest edges s h.static h.goes (plain_here x s h) (subst P (sym h.eip) g) (subst U (sym h.eip) u) (subst F (sym h.eip) f)
+      let Q : ℕ → Type 0 = λ y. Comes exe s (run (length (block_of exe y).insts) s []) × ((block_of exe y).end ≡ Transfer) × Contains further (last_of y (block_of exe y).insts, (run (length (block_of exe y).insts) s []).eip) in
+      let l = subst Q h.eip (left_never below.leaves exe guest edges further s h.static h.goes (plain_here x s h) (subst P (sym h.eip) g) (subst U (sym h.eip) u) (subst F (sym h.eip) f)) in
+      let t = run (plan.count x) s [] in
+      let fine = kept_fine (plan.count x) s g in
+      laws.met.apart x t.eip h.start l.1 u near l.2 t (of_run (plan.count x) s h.static fine) l.0.running refl f
+    where
+      kept_fine : (n : ℕ) (s : State) → AllGood (IsKept set) n s → AllGood IsWellDefined n s
+      kept_fine zero s g = tt
+      kept_fine (suc n) s g = (g.0.fine, kept_fine n (step s 0) g.1)
+
+  -- from a copy an indirect transfer leads to a block or a copy, or nowhere
+  nowhere : (s : State) → IsOf exe s → s.stop ≡ Running → IsKept set s → IsIndirect s → (step s 0).stop ≡ Running → plan.is_start (step s 0).eip ≡ false → plan.cold (step s 0).eip ≡ false → IsWellDefined (step s 0) → ⊥
+  nowhere s h r g i goes start cold f = ⊎_elim
+      (λ (q : is_start_of exe edges (step s 0).eip ≡ true). true≢false (sym q ∙ start))
+      (λ (q : Contains further (s.eip, (step s 0).eip)). ⊎_elim
+      (λ (m : plan.is_start (step s 0).eip ≡ true). true≢false (sym m ∙ start))
+      (λ (m : plan.cold (step s 0).eip ≡ true). true≢false (sym m ∙ cold))
+      (laws.met.met (s.eip, (step s 0).eip) q))
+      (indirect_met below.graph exe guest edges further s h r g.fine g.keeps i (of_on s h g.fine) goes f)
 
   -- what is related stays so, with some steps of both
   pub moves_on : Moves IsWellDefined (Related plan (IsOf exe) Anything (Unit {0})) Anything laws.high
-  moves_on = moves plan (IsOf exe) laws.plain laws.opening laws.closing laws.top laws.high statics laid blocks islands laws.plain_bound laws.island_bound IsWellDefined Anything (Unit {0}) (fine_claim plan (IsOf exe) laws.plain laws.opening laws.closing laws.top laws.high statics laid blocks islands laws.plain_bound laws.island_bound)
+  moves_on = moves plan (IsOf exe) laws.plain laws.turn laws.opening laws.closing laws.top laws.high statics laid blocks laws.copies islands laws.plain_bound laws.island_bound IsWellDefined Anything (Unit {0}) (fine_claim plan (IsOf exe) laws.plain laws.turn laws.opening laws.closing laws.top laws.high statics laid blocks laws.copies islands laws.plain_bound laws.island_bound)
 
-  -- so does one that keeps to the recorded edges, and never leaves the recovered code
-  pub keeps_on : Moves (IsKept edges) (Related plan (IsOf exe) IsBelow ⊥) IsBelow laws.high
-  keeps_on = moves plan (IsOf exe) laws.plain laws.opening laws.closing laws.top laws.high statics laid blocks islands laws.plain_bound laws.island_bound (IsKept edges) IsBelow ⊥ (kept_claim plan (IsOf exe) laws.plain laws.opening laws.closing laws.top laws.high statics laid blocks islands laws.plain_bound laws.island_bound edges never)
+  -- so does one that keeps to the edges, and never leaves the recovered code
+  pub keeps_on : Moves (IsKept set) (Related plan (IsOf exe) IsBelow ⊥) IsBelow laws.high
+  keeps_on = moves plan (IsOf exe) laws.plain laws.turn laws.opening laws.closing laws.top laws.high statics laid blocks laws.copies islands laws.plain_bound laws.island_bound (IsKept set) IsBelow ⊥ (kept_claim plan (IsOf exe) laws.plain laws.turn laws.opening laws.closing laws.top laws.high statics laid blocks laws.copies islands laws.plain_bound laws.island_bound set never nowhere)
 
   -- ---- both guests from their openings
   module _ (words : List (List ℕ)) (input : List ℕ) (given : AreOfBytes e words input) where
@@ -213,15 +236,23 @@ module _ (below : Below) (e : List ℕ) (exe : Exe) (ok : elf Original e ≡ Ok 
     -- where the recovered code may be left
     pub begun_any : (n : ℕ) (cs : List ℕ) → WellDefined n s0 → Begun Anything laws.top laws.high n s0 t0 cs
     begun_any n cs h =
-        let z = simulated plan (IsOf exe) laws.plain laws.opening laws.closing laws.top laws.high statics laid blocks islands laws.plain_bound laws.island_bound IsWellDefined Anything (Unit {0}) (fine_claim plan (IsOf exe) laws.plain laws.opening laws.closing laws.top laws.high statics laid blocks islands laws.plain_bound laws.island_bound) s0 t0 begins (λ b. tt) in
+        let z = simulated plan (IsOf exe) laws.plain laws.turn laws.opening laws.closing laws.top laws.high statics laid blocks laws.copies islands laws.plain_bound laws.island_bound IsWellDefined Anything (Unit {0}) (fine_claim plan (IsOf exe) laws.plain laws.turn laws.opening laws.closing laws.top laws.high statics laid blocks laws.copies islands laws.plain_bound laws.island_bound) s0 t0 begins (λ b d. tt) in
         begun IsWellDefined (Related plan (IsOf exe) Anything (Unit {0})) Anything laws.top laws.high z.alike z.moves n s0 t0 cs (z.enters cs) (all_fine n s0 h)
 
     -- and where it may not
-    pub begun_low : (n : ℕ) (cs : List ℕ) → Contains edges (0, exe.entry) → WellDefined n s0 → AllIn edges (edges_from n s0) → Begun IsBelow laws.top laws.high n s0 t0 cs
+    pub begun_low : (n : ℕ) (cs : List ℕ) → Contains set (0, exe.entry) → WellDefined n s0 → AllIn set (edges_from n s0) → Begun IsBelow laws.top laws.high n s0 t0 cs
     begun_low n cs k h e =
-        let start = entry_starts below.graph exe guest edges k original.entry in
-        let z = simulated plan (IsOf exe) laws.plain laws.opening laws.closing laws.top laws.high statics laid blocks islands laws.plain_bound laws.island_bound (IsKept edges) IsBelow ⊥ (kept_claim plan (IsOf exe) laws.plain laws.opening laws.closing laws.top laws.high statics laid blocks islands laws.plain_bound laws.island_bound edges never) s0 t0 begins (λ b. true≢false (sym start ∙ b)) in
-        begun (IsKept edges) (Related plan (IsOf exe) IsBelow ⊥) IsBelow laws.top laws.high z.alike z.moves n s0 t0 cs (z.enters cs) (all_keep edges n s0 h e)
+        let z = simulated plan (IsOf exe) laws.plain laws.turn laws.opening laws.closing laws.top laws.high statics laid blocks laws.copies islands laws.plain_bound laws.island_bound (IsKept set) IsBelow ⊥ (kept_claim plan (IsOf exe) laws.plain laws.turn laws.opening laws.closing laws.top laws.high statics laid blocks laws.copies islands laws.plain_bound laws.island_bound set never nowhere) s0 t0 begins entry_met in
+        begun (IsKept set) (Related plan (IsOf exe) IsBelow ⊥) IsBelow laws.top laws.high z.alike z.moves n s0 t0 cs (z.enters cs) (all_keep set n s0 h e)
+      where
+        entry_met : plan.is_start exe.entry ≡ false → plan.cold exe.entry ≡ false → ⊥
+        entry_met b d = ⊎_elim
+            (λ (q : Contains edges (0, exe.entry)). true≢false (sym (entry_starts below.graph exe guest edges q original.entry) ∙ b))
+            (λ (q : Contains further (0, exe.entry)). ⊎_elim
+            (λ (m : plan.is_start exe.entry ≡ true). true≢false (sym m ∙ b))
+            (λ (m : plan.cold exe.entry ≡ true). true≢false (sym m ∙ d))
+            (laws.met.met (0, exe.entry) q))
+            (in_either edges further (0, exe.entry) k)
 
   module _ (words : List (List ℕ)) (input : List ℕ) where
     first : opening_of e words input ≡ opening exe (arguments words) input
@@ -264,13 +295,13 @@ module _ (below : Below) (e : List ℕ) (exe : Exe) (ok : elf Original e ≡ Ok 
         (q.0, q.1, show words input cs m q.0 q.2);
   }
 
-  pub covers : Covers e file edges
+  pub covers : Covers e file set
   covers = record {
     outside = λ words input cs fit given _ m d keeps k l.
         let s = first words input in
         let g : guest_of e ≡ exe = ap exe_or_none (accepted e exe ok).as_guest in
-        let has : Contains edges (0, exe.entry) = subst (λ (x : Exe). Contains edges (0, x.entry)) g keeps.0 in
-        let b = begun_low words input given (64 * (m + 1)) cs has (subst (WellDefined (64 * (m + 1))) s d) (subst (λ s. AllIn edges (edges_from (64 * (m + 1)) s)) s keeps.1) in
+        let has : Contains set (0, exe.entry) = subst (λ (x : Exe). Contains set (0, x.entry)) g keeps.0 in
+        let b = begun_low words input given (64 * (m + 1)) cs has (subst (WellDefined (64 * (m + 1))) s d) (subst (λ s. AllIn set (edges_from (64 * (m + 1)) s)) s keeps.1) in
         let low = b.covers.quiet k (omega (arith, b.reach, l)) in
         let there : (run_of file words input cs k).eip ≡ (run k (opening (laid_exe exe laws.laid.segment) (arguments words) input) cs).eip = ap (λ s. (run k s cs).eip) (second words input) in
         subst (λ (x : Exe). IsOutside (run_of file words input cs k).eip x.segments) (sym g) (subst (λ a. IsOutside a exe.segments) (sym there) (outside_low _ exe.segments original.segments low));

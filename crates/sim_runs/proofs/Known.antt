@@ -1,5 +1,5 @@
 -- Starts and known exits as tests, and what is in the lists of the graph.
-use Rattle.std.proofs.Common.{◌≡◌, ℕ, zero, suc, Bool, true, false, cond, ◌&&◌, ◌||◌, List, [], ◌∷◌, map, Option, Some, None, Contains, refl, sym, ap, ◌∙◌, subst, arith, ⊎_elim, ◌⊎◌, inl, inr}
+use Rattle.std.proofs.Common.{◌≡◌, ℕ, zero, suc, Bool, true, false, cond, ◌&&◌, ◌||◌, List, [], ◌∷◌, ◌++◌, map, Option, Some, None, Contains, refl, sym, ap, ◌∙◌, subst, arith, ⊎_elim, ◌⊎◌, inl, inr}
 use Rattle.std.specs.Prelude.{filter, ◌==◌, option_to_list}
 use Rattle.std.proofs.lemmas.Bool.{eq-eqb, eqb-true, true≢false}
 use Rattle.elf_read.specs.declared.exe.Exe.{Exe}
@@ -95,12 +95,27 @@ of_targets (a ∷ es) t h = ⊎_elim
     (λ (c : Contains (map (λ (e : Edge). e.1) es) t). let r = of_targets es t c in (r.0, there a r.0 es r.1, r.2))
     (first_or_later a.1 t (map (λ (e : Edge). e.1) es) h)
 
+in_targets : (es : List Edge) (e : Edge) → Contains es e → Contains (map (λ (e : Edge). e.1) es) e.1
+in_targets [] e h = absurd (none e h)
+in_targets (a ∷ es) e h = ⊎_elim
+    (λ (same : a ≡ e). subst (λ (z : Edge). Contains (z.1 ∷ map (λ (e : Edge). e.1) es) e.1) (sym same) (here e.1 (map (λ (e : Edge). e.1) es)))
+    (λ (c : Contains es e). there a.1 e.1 (map (λ (e : Edge). e.1) es) (in_targets es e c))
+    (first_or_later a e es h)
+
 in_option : (o : Option ℕ) (y : ℕ) → Contains (option_to_list o) y → o ≡ Some y
 in_option None y h = absurd (none y h)
 in_option (Some x) y h = ⊎_elim (λ (e : x ≡ y). ap some e) (λ (c : Contains [] y). absurd (none y c)) (first_or_later x y [] h)
   where
     some : ℕ → Option ℕ
     some x = Some x
+
+-- in the first of two lists or in the second
+pub in_either : {X : Type 0} (xs ys : List X) (x : X) → Contains (xs ++ ys) x → Contains xs x ⊎ Contains ys x
+in_either [] ys x h = inr h
+in_either (z ∷ xs) ys x h = ⊎_elim
+    (λ (e : z ≡ x). inl (subst (λ z. Contains (z ∷ xs) x) (sym e) (here x xs)))
+    (λ (c : Contains (xs ++ ys) x). ⊎_elim (λ (d : Contains xs x). inl (there z x xs d)) (λ (d : Contains ys x). inr d) (in_either xs ys x c))
+    (first_or_later z x (xs ++ ys) h)
 
 -- ---- the graph
 
@@ -123,6 +138,43 @@ module _ (exe : Exe) (edges : List Edge) where
   pub known_other : (x : ℕ) → is_transfer_end (block_of exe x).end ≡ false → known_of exe counts_of x ≡ option_to_list (follow_of exe x)
   known_other x h = known_at x (block_of exe x).end refl ∙ other_by (block_of exe x).end (targets_from (last_of x (block_of exe x).insts) counts_of) (option_to_list (follow_of exe x)) h
 
+-- an exit that is known with more edges is known with the first of them, or the others lead from the block there
+pub known_or : (exe : Exe) (edges more : List Edge) (x y : ℕ) → Contains (known_of exe (counting exe (edges ++ more)) x) y
+    → Contains (known_of exe (counting exe edges) x) y ⊎ (((block_of exe x).end ≡ Transfer) × Contains more (last_of x (block_of exe x).insts, y))
+known_or exe edges more x y h = go (is_transfer_end (block_of exe x).end) refl
+  where
+    transfer : (e : End) → is_transfer_end e ≡ true → e ≡ Transfer
+    transfer Transfer h = refl
+    transfer Island h = cc
+    transfer BeforeIsland h = cc
+    transfer Unreadable h = cc
+    transfer Full h = cc
+
+    moved : (es : List Edge) (e : Edge) → e.0 ≡ (last_of x (block_of exe x).insts) → e.1 ≡ y → Contains es e → Contains es (last_of x (block_of exe x).insts, y)
+    moved es e a b c = subst (λ z. Contains es (last_of x (block_of exe x).insts, z)) b (subst (λ z. Contains es (z, e.1)) a c)
+
+    kept : (block_of exe x).end ≡ Transfer → counts exe (last_of x (block_of exe x).insts, y) ≡ true → Contains edges (last_of x (block_of exe x).insts, y) → Contains (known_of exe (counting exe edges) x) y
+    kept t n c =
+        let f = in_filter (counts exe) edges (last_of x (block_of exe x).insts, y) c n in
+        let g = in_filter (λ (a : Edge). a.0 == (last_of x (block_of exe x).insts)) (counting exe edges) (last_of x (block_of exe x).insts, y) f (eq-eqb (last_of x (block_of exe x).insts) (last_of x (block_of exe x).insts) refl) in
+        let P : List ℕ → Type 0 = λ ks. Contains ks y in
+        subst P (sym (known_at exe edges x Transfer t)) (in_targets (filter (λ (a : Edge). a.0 == (last_of x (block_of exe x).insts)) (counting exe edges)) (last_of x (block_of exe x).insts, y) g)
+
+    go : (b : Bool) → is_transfer_end (block_of exe x).end ≡ b → Contains (known_of exe (counting exe edges) x) y ⊎ (((block_of exe x).end ≡ Transfer) × Contains more (last_of x (block_of exe x).insts, y))
+    go false f = let P : List ℕ → Type 0 = λ ks. Contains ks y in inl (subst P (known_other exe (edges ++ more) x f ∙ sym (known_other exe edges x f)) h)
+    go true f =
+        let t = transfer (block_of exe x).end f in
+        let P : List ℕ → Type 0 = λ ks. Contains ks y in
+        let r = of_targets (filter (λ (a : Edge). a.0 == (last_of x (block_of exe x).insts)) (counting exe (edges ++ more))) y (subst P (known_at exe (edges ++ more) x Transfer t) h) in
+        let c = of_filter (λ (a : Edge). a.0 == (last_of x (block_of exe x).insts)) (counting exe (edges ++ more)) r.0 r.1 in
+        let d = of_filter (counts exe) (edges ++ more) r.0 c.0 in
+        let m = moved (edges ++ more) r.0 (eqb-true r.0.0 (last_of x (block_of exe x).insts) c.1) r.2 d.0 in
+        let n : counts exe (last_of x (block_of exe x).insts, y) ≡ true = subst (λ z. counts exe (last_of x (block_of exe x).insts, z) ≡ true) r.2 (subst (λ z. counts exe (z, r.0.1) ≡ true) (eqb-true r.0.0 (last_of x (block_of exe x).insts) c.1) d.1) in
+        ⊎_elim
+        (λ (k : Contains edges (last_of x (block_of exe x).insts, y)). inl (kept t n k))
+        (λ (k : Contains more (last_of x (block_of exe x).insts, y)). inr (t, k))
+        (in_either edges more (last_of x (block_of exe x).insts, y) m)
+
 module _ (one : OneGraph) (exe : Exe) (guest : IsGuest exe) (edges : List Edge) where
   abbrev counted : List Edge
   counted = counting exe edges
@@ -136,6 +188,9 @@ module _ (one : OneGraph) (exe : Exe) (guest : IsGuest exe) (edges : List Edge) 
   -- the target of an edge that counts is a start, and a known exit of a block that ends with its transfer
   counted_has : (e : Edge) → Contains edges e → counts exe e ≡ true → Contains counted e
   counted_has e h t = in_filter (counts exe) edges e h t
+
+  pub counted_starts : (e : Edge) → Contains edges e → counts exe e ≡ true → is_start_of exe edges e.1 ≡ true
+  counted_starts e h t = is_a_start e.1 (record { edge = e; traced = counted_has e h t; reached = (0, refl) })
 
   -- the entry, where a run began
   pub entry_starts : Contains edges (0, exe.entry) → is_exec exe.entry exe.segments ≡ true → is_start_of exe edges exe.entry ≡ true

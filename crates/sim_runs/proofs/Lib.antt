@@ -1,10 +1,14 @@
-mod Runs
+-- For the crates above:
+pub mod Runs
+pub mod Widen
+pub mod Native
+pub mod Same
+pub mod Moves
+pub mod Indirect
+pub mod Pass
+
 mod Forward
 mod Whole
-mod Widen
-mod Native
-mod Same
-mod Moves
 mod Image
 mod High
 mod Known
@@ -16,7 +20,6 @@ mod Joined
 mod Lines
 mod Coding
 mod Ends
-pub mod Pass
 mod Pieces
 mod Linked
 mod WholeBlock

@@ -107,7 +107,7 @@ module _ (laws : Encodes) where
       let stands = laws.stand c.code (goes_to c.address) (c.address x) is k.front k.behind k.bytes k.place k.valid k.distinct in
       let run = made.run x p t a start plain serves h in
       let path = paths x start plain in
-      let g = pieces_pass dest exe edges c x (coding x) serves p a h.small h.bytes h.allowed h.homes pieces run h.home_bits h.out_bits path.exit path.ways (c.address x) t cs stands (h.sees, h.eip) in
+      let g = pieces_pass dest exe edges c x (coding x) serves p a h.small h.bytes h.allowed h.homes pieces run h.home_bits h.out_bits (made.literal x) path.exit path.ways (c.address x) t cs stands (h.sees, h.eip) in
       gets_leads _ _ t cs (gets_map _ (λ u. Arrives (plan_of exe edges c) x p a u ⊎ Leaves (plan_of exe edges c) x p a u) 1 1 _ high t cs (omega arith) path.fits (λ u h. h) g)
 
   by_length : (exe : Exe) (edges : List Edge) (c : Coded) (coding : ℕ → Coding) → FragmentsMade exe edges c coding → FragmentRuns exe edges c coding (length c.code.bytes)

@@ -16,8 +16,9 @@ use Rattle.sim_runs.specs.Forward.{after, AllGood, Moved, Short}
 use Rattle.sim_runs.specs.Native.{placed, AllEnds}
 use Rattle.br_word.specs.Words.{bit}
 use Rattle.ssa_form.specs.Agree.{number, AgreesOn, every}
-use Rattle.sim_runs.specs.Relation.{Plan, extra_of, at_home, AtBlock, Ready, IsBeside, AtNative, IsOver, Over, Related, at_block, at_native, gone, over, doomed}
-use Rattle.sim_runs.specs.Laws.{Leads, Lifted, Arrives, Leaves, Opens, Captured, past, Original, Laid, Starts, PlainLaws, IslandLaws}
+use Rattle.sim_runs.specs.Passes.{Gets}
+use Rattle.sim_runs.specs.Relation.{Plan, extra_of, at_home, AtBlock, Ready, IsBeside, InCopy, AtNative, IsOver, Over, Related, at_block, at_native, at_copy, gone, over, doomed}
+use Rattle.sim_runs.specs.Laws.{Leads, Lifted, Arrives, Leaves, Opens, Captured, past, Original, Laid, Starts, PlainLaws, IslandLaws, Landed, in_block, in_copy, nowhere, After, in_place, lands, leaves, stops, CopyLaws}
 use Rattle.sim_runs.specs.Leaving.{Claim}
 use Rattle.sim_runs.proofs.Runs.{run_on, good_less}
 use Rattle.sim_runs.proofs.Native.{Beside, step_beside}
@@ -157,6 +158,36 @@ module _ (R : State → State → Type 0) (W : State → Type 0) (alike : (s t :
       next = r;
     }
 
+-- within more steps
+abbrev lead_more : (P : State → Type 0) (h k : ℕ) (t : State) (cs : List ℕ) → Leads P h t cs → Leads P (h + k) t cs
+lead_more P h k t cs l = record { steps = l.steps; going = l.going; bound = omega (arith, l.bound); shows = l.shows; inside = l.inside; there = l.there }
+
+-- recovered code, and then more of it
+lead_on : (P Q : State → Type 0) (h k : ℕ) (t : State) (cs : List ℕ) → (l : Leads P h t cs) → Gets Q 0 k (run l.steps t cs) (after l.steps cs) → Leads Q (h + k) t cs
+lead_on P Q h k t cs l g = record {
+  steps = l.steps + g.steps;
+  going = omega (arith, l.going);
+  bound = omega (arith, l.bound, g.bound);
+  shows = λ i b. ⊎_elim
+      (λ (c : i < l.steps). l.shows i (omega arith))
+      (λ (c : l.steps ≤ i). ap observed (later i c) ∙ g.shows (i - l.steps) (omega arith) ∙ l.shows l.steps (omega arith))
+      (cases_lt i l.steps);
+  inside = λ i b. ⊎_elim
+      (λ (c : i < l.steps). l.inside i c)
+      (λ (c : l.steps ≤ i). let q = g.inside (i - l.steps) (omega arith) in let e : (run i t cs).eip ≡ (run (i - l.steps) (run l.steps t cs) (after l.steps cs)).eip = ap (λ (u : State). u.eip) (later i c) in omega (arith, q, e))
+      (cases_lt i l.steps);
+  there = subst Q (sym (run_on l.steps g.steps t cs)) g.there;
+}
+  where
+    later : (i : ℕ) → l.steps ≤ i → run i t cs ≡ run (i - l.steps) (run l.steps t cs) (after l.steps cs)
+    later i b = let z : i ≡ l.steps + (i - l.steps) = omega arith in ap (λ i. run i t cs) z ∙ run_on l.steps (i - l.steps) t cs
+
+same_or_not : (a b : ℕ) → (a ≡ b) ⊎ (a ≡ b → ⊥)
+same_or_not a b = ⊎_elim
+    (λ (l : a < b). inr (λ e. omega (arith, l, e)))
+    (λ (l : b ≤ a). ⊎_elim (λ (m : b < a). inr (λ e. omega (arith, m, e))) (λ (m : a ≤ b). inl (omega (arith, l, m))) (cases_lt b a))
+    (cases_lt a b)
+
 number_small : (f : Flag) → number f < 14
 number_small CF = omega arith
 number_small PF = omega arith
@@ -193,6 +224,7 @@ module _ (plan : Plan) (Static good W : State → Type 0) (may : Type 0) where
   pub alike : (s t : State) → R s t → observed t ≡ observed s
   alike s t (at_block x h) = h.sees.seen ∙ h.shows
   alike s t (at_native x h) = ap observed h.wider.same
+  alike s t (at_copy x k h) = ap observed h.stands.wider.same
   alike s t (gone m own e h w) = ap observed w.same
   alike s t (over h) = h.same
   alike s t (doomed h) = h.same
@@ -349,8 +381,53 @@ module _ (plan : Plan) (Static good W : State → Type 0) (may : Type 0) where
         lead_first R W alike claim.low (Opens plan x h.cells) opening (1 + closing) left s t cs (alike s t (at_block x h)) l
         (native_move x s (run l.steps t cs) (after l.steps cs) left lt g (opened x s t _ i h l.there))
 
+  -- the move of a copied instruction
+  module _ (claim : Claim plan Static good W may) (orig : Original Static) (turn : ℕ) (copies : CopyLaws plan Static turn) where
+    -- to where the file landed
+    pub landed : (s u : State) → Static s → s.stop ≡ Running → Landed plan Static s u → R s u
+    landed s u static goes (in_block y h) = at_block y h
+    landed s u static goes (in_copy c p) = ⊎_elim
+        (λ (l : plan.copied s.eip < 1). doomed (record { same = ap observed p.wider.same; doomed = copies.empty s.eip s c (omega (arith, l)) static goes refl }))
+        (λ (l : 1 ≤ plan.copied s.eip). let some : 0 < plan.copied s.eip = omega (arith, l) in at_copy s.eip 0 (record {
+          cold = c;
+          within = some;
+          eip = sym (copies.first s.eip c some);
+          goes = goes;
+          static = static;
+          stands = p;
+        }))
+        (cases_lt (plan.copied s.eip) 1)
+    landed s u static goes (nowhere d e) = doomed (record { same = e; doomed = d })
+
+    behind : (x k : ℕ) (s t u : State) → good s → InCopy plan Static x k s t → Static (step s 0) → After plan Static s (step s 0) u → R (step s 0) u
+    behind x k s t u g h static (in_place y j c) = at_copy y j c
+    behind x k s t u g h static (lands goes l) = landed (step s 0) u static goes l
+    behind x k s t u g h static (leaves i goes start cold own size w) = ⊎_elim
+        (λ (m : may). gone m own size (orig.high (step s 0) static) w)
+        (λ (d : IsWellDefined (step s 0) → ⊥). doomed (record { same = ap observed w.same; doomed = d }))
+        (claim.lost x k s t h g i goes start cold)
+    behind x k s t u g h static (stops o e l) = over (record { same = e; over = o; quiet = claim.low u l })
+
+    pub copy_move : (x k : ℕ) (s t : State) (cs : List ℕ) (left : ℕ) → 0 < left → good s → InCopy plan Static x k s t → Moved R W turn left s t cs
+    copy_move x k s t cs left lt g h =
+        let f = claim.fine s g in
+        let static = orig.on s h.static f in
+        let z = copies.turns x k s t cs h f static in
+        record {
+          took = 1;
+          steps = z.steps;
+          some = omega arith;
+          few = omega arith;
+          in_time = omega (arith, lt);
+          going = z.going;
+          bound = z.bound;
+          shows = z.shows;
+          quiet = λ i l. claim.low _ (z.inside i l);
+          next = behind x k s t (run z.steps t cs) g h static z.next;
+        }
+
   -- the move of a block that is no island
-  module _ (claim : Claim plan Static good W may) (orig : Original Static) (laid : Laid plan) (high : ℕ) (laws : PlainLaws plan Static high) where
+  module _ (claim : Claim plan Static good W may) (orig : Original Static) (laid : Laid plan) (high : ℕ) (laws : PlainLaws plan Static high) (turn : ℕ) (copies : CopyLaws plan Static turn) where
     static_on : (n : ℕ) (s : State) → Static s → AllGood IsWellDefined n s → Static (run n s [])
     static_on zero s h g = h
     static_on (suc n) s h g = static_on n (step s 0) (orig.on s h g.0) g.1
@@ -379,19 +456,41 @@ module _ (plan : Plan) (Static good W : State → Type 0) (may : Type 0) where
       brk = a.stays.brk ∙ h.brk ∙ sym l.brk ∙ sym (ap (λ (u : State). u.brk) e);
     })
 
-    left_to : (x : ℕ) (p : ℕ → ℕ) (s t s1 u : State) (h : AtBlock plan Static x s t) → plan.is_island x ≡ false → s1 ≡ run (plan.count x) s [] → Static s1 → observed s1 ≡ observed s → AllGood good (plan.count x) s → Lifted plan x p s → Leaves plan x p h.cells u → R s1 u
-    left_to x p s t s1 u h i e static w g l a =
+    -- from a block by an exit that is not known: the file's guest is the original's, at the place of that exit
+    record Left (x : ℕ) (s1 u : State) : Type 0 where
+      own : List ℕ
+      size : length own ≡ 65536
+      ready : (plan.beyond x s1.eip ≡ s1.eip → ⊥) → Ready own s1.cpu.df
+      wider : IsBeside plan own (plan.beyond x s1.eip) s1 u
+      unknown : plan.knows x s1.eip ≡ false
+
+    left_by : (x : ℕ) (p : ℕ → ℕ) (s t s1 u : State) (h : AtBlock plan Static x s t) → s1 ≡ run (plan.count x) s [] → Static s1 → observed s1 ≡ observed s → Lifted plan x p s → Leaves plan x p h.cells u → Left x s1 u
+    left_by x p s t s1 u h e static w l a =
         let eip : s1.eip ≡ plan.exit x p h.cells.outer = ap (λ (u : State). u.eip) e ∙ l.eip ∙ ap (plan.exit x p) (sym h.outer) in
-        let there = ap (λ (u : State). u.eip) e in
         let agrees : AgreesOn every s1.cpu (plan.outs x p h.cells.outer) = subst (λ s1. AgreesOn every s1.cpu (plan.outs x p h.cells.outer)) (sym e) (subst (λ o. AgreesOn every (run (plan.count x) s []).cpu (plan.outs x p o)) (sym h.outer) l.agrees) in
         let memory : plan.memory x p h.cells.outer ≡ s1.regions = ap (plan.memory x p) h.outer ∙ sym l.memory ∙ sym (ap (λ (u : State). u.regions) e) in
-        let v = restored_wider plan (plan.exit x p h.cells.outer) (plan.outs x p h.cells.outer) (plan.memory x p h.cells.outer) h.cells s1 u a.restored agrees memory (h.shows ∙ sym w) (h.brk_start ∙ sym l.brk_start ∙ sym (ap (λ (u : State). u.brk_start) e)) (h.brk ∙ sym l.brk ∙ sym (ap (λ (u : State). u.brk) e)) (orig.eight s1 static) in
-        ⊎_elim
-        (λ (m : may). gone m a.restored.own a.restored.size (orig.high s1 static) (subst (λ at. IsBeside plan a.restored.own at s1 u) (sym eip) v))
-        (λ (d : IsWellDefined (run (plan.count x) s []) → ⊥). doomed (record { same = ap observed v.same; doomed = subst (λ u. IsWellDefined u → ⊥) (sym e) d }))
-        (claim.leaves x s (starts x s t i h) g (ap (plan.knows x) (sym there ∙ eip) ∙ a.unknown))
+        let v = restored_wider plan (plan.beyond x (plan.exit x p h.cells.outer)) (plan.outs x p h.cells.outer) (plan.memory x p h.cells.outer) h.cells s1 u a.restored agrees memory (h.shows ∙ sym w) (h.brk_start ∙ sym l.brk_start ∙ sym (ap (λ (u : State). u.brk_start) e)) (h.brk ∙ sym l.brk ∙ sym (ap (λ (u : State). u.brk) e)) (orig.eight s1 static) in
+        let df : u.cpu.df ≡ s1.cpu.df = ap (λ (u : State). u.cpu.df) v.same in
+        record {
+          own = a.restored.own;
+          size = a.restored.size;
+          ready = λ far. subst (Ready a.restored.own) df (a.ready (λ q. far (ap (plan.beyond x) eip ∙ q ∙ sym eip)));
+          wider = subst (λ at. IsBeside plan a.restored.own (plan.beyond x at) s1 u) (sym eip) v;
+          unknown = ap (plan.knows x) eip ∙ a.unknown;
+        }
 
-    pub plain_move : (x : ℕ) (s t : State) (cs : List ℕ) (left : ℕ) → 0 < left → AllGood good left s → plan.is_island x ≡ false → AtBlock plan Static x s t → Moved R W high left s t cs ⊎ Short left s
+    -- that place is the exit itself
+    left_to : (x : ℕ) (s t u : State) → Starts plan Static x s → AllGood good (plan.count x) s → Static (run (plan.count x) s []) → Left x (run (plan.count x) s []) u → plan.beyond x (run (plan.count x) s []).eip ≡ (run (plan.count x) s []).eip → R (run (plan.count x) s []) u
+    left_to x s t u start g static v near = ⊎_elim
+        (λ (m : may). gone m v.own v.size (orig.high (run (plan.count x) s []) static) (subst (λ at. IsBeside plan v.own at (run (plan.count x) s []) u) near v.wider))
+        (λ (d : IsWellDefined (run (plan.count x) s []) → ⊥). doomed (record { same = ap observed v.wider.same; doomed = d }))
+        (claim.leaves x s start g v.unknown near)
+
+    -- or another, from which recovered code leads on
+    left_for : (x : ℕ) (s1 u : State) (cs : List ℕ) → plan.is_start x ≡ true → plan.is_island x ≡ false → Static s1 → s1.stop ≡ Running → Left x s1 u → (plan.beyond x s1.eip ≡ s1.eip → ⊥) → Gets (Landed plan Static s1) 0 turn u cs
+    left_for x s1 u cs start i static goes v far = copies.beyond x s1 u cs start i v.unknown far static goes (record { own = v.own; ready = v.ready far; wider = v.wider })
+
+    pub plain_move : (x : ℕ) (s t : State) (cs : List ℕ) (left : ℕ) → 0 < left → AllGood good left s → plan.is_island x ≡ false → AtBlock plan Static x s t → Moved R W (high + turn) left s t cs ⊎ Short left s
     plain_move x s t cs left lt g i h = ⊎_elim
         (λ (b : left < plan.count x). inr (record { few = let q = laws.few x in omega arith; same = laws.steady x left s (starts x s t i h) (omega arith) fine }))
         (λ (b : plan.count x ≤ left). inl (whole b (good_less good left (plan.count x) s b g)))
@@ -404,7 +503,7 @@ module _ (plan : Plan) (Static good W : State → Type 0) (may : Type 0) where
         first zero l g = absurd (omega arith)
         first (suc n) l g = g.0
 
-        whole : plan.count x ≤ left → AllGood good (plan.count x) s → Moved R W high left s t cs
+        whole : plan.count x ≤ left → AllGood good (plan.count x) s → Moved R W (high + turn) left s t cs
         whole b gk =
             let p = overlay (plan.live x) (at_home plan h.cells) s in
             let fk = all_map good IsWellDefined claim.fine (plan.count x) s gk in
@@ -415,8 +514,19 @@ module _ (plan : Plan) (Static good W : State → Type 0) (may : Type 0) where
             let w = laws.steady x (plan.count x) s (starts x s t i h) (omega arith) fk in
             let static = static_on (plan.count x) s h.static fk in
             let some : 0 < plan.count x = ⊎_elim (λ (q : plan.count x < 1). absurd (laws.empty x s (starts x s t i h) (omega arith) (claim.fine s (first left lt g)))) (λ (q : 1 ≤ plan.count x). omega arith) (cases_lt (plan.count x) 1) in
-            lead_only R W alike claim.low _ high left (plan.count x) s t cs some (laws.few x) b (alike s t (at_block x h)) f
-            (⊎_elim
-            (λ a. arrived x p s t (run (plan.count x) s []) (run f.steps t cs) h refl static w l a)
-            (λ a. left_to x p s t (run (plan.count x) s []) (run f.steps t cs) h i refl static w gk l a)
-            f.there)
+            let s1 : State = run (plan.count x) s [] in
+            let u : State = run f.steps t cs in
+            let goes : s1.stop ≡ Running = ap (λ (z : Observation). z.stop) w ∙ h.goes in
+            let at_once : R s1 u → Moved R W (high + turn) left s t cs = λ r. lead_only R W alike claim.low _ (high + turn) left (plan.count x) s t cs some (laws.few x) b (alike s t (at_block x h)) (lead_more _ high turn t cs f) r in
+            ⊎_elim
+            (λ (a : Arrives plan x p h.cells u). at_once (arrived x p s t s1 u h refl static w l a))
+            (λ (a : Leaves plan x p h.cells u).
+            let v = left_by x p s t s1 u h refl static w l a in
+            ⊎_elim
+            (λ (near : plan.beyond x s1.eip ≡ s1.eip). at_once (left_to x s t u (starts x s t i h) gk static v near))
+            (λ (far : plan.beyond x s1.eip ≡ s1.eip → ⊥).
+            let g = left_for x s1 u (after f.steps cs) h.start i static goes v far in
+            let more = lead_on _ (Landed plan Static s1) high turn t cs f g in
+            lead_only R W alike claim.low (Landed plan Static s1) (high + turn) left (plan.count x) s t cs some (laws.few x) b (alike s t (at_block x h)) more (landed claim orig turn copies s1 (run more.steps t cs) static goes more.there))
+            (same_or_not (plan.beyond x s1.eip) s1.eip))
+            f.there

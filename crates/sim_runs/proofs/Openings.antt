@@ -14,7 +14,7 @@ use Rattle.elf_read.specs.Regions.{region_of}
 use Rattle.run_model.specs.Opening.{opening}
 use Rattle.sim_laws.specs.Wider.{AllHigh, IsHigh}
 use Rattle.sim_runs.specs.Native.{placed}
-use Rattle.sim_runs.specs.Relation.{Plan, Ready, IsBeside, extra_of}
+use Rattle.sim_runs.specs.Relation.{Plan, Ready, IsBeside, aside, extra_of}
 use Rattle.code_laws.specs.Seen.{word, private_region}
 use Rattle.ssa_form.specs.Agree.{number}
 use Rattle.sim_runs.specs.Image.{Opening, Capturable}
@@ -100,6 +100,6 @@ module _ (exe : Exe) (plan : Plan) (segment : Segment) (is_code : region_of segm
       bound = l.bound;
       shows = l.shows;
       inside = l.inside;
-      there = subst (IsBeside plan (zeros 65536) exe.entry s0) (sym l.there) (wider_at exe.entry);
+      there = subst (IsBeside plan (zeros 65536) (aside plan exe.entry) s0) (sym l.there) (wider_at (aside plan exe.entry));
     };
   }

@@ -148,8 +148,8 @@ module _ (dest : Dest → ℕ) (exe : Exe) (edges : List Edge) (c : Coded) (x : 
               (λ (off : c.live taken v ≡ false). let q = t.others v l off in omega (arith, q, old))
               (cases_Bool (c.live taken v))
 
-      leaves : (u : State) → knows taken ≡ false → Restored plan taken (outs_of k.block.outs whole) whole.mem a u → Leaves plan x p a u
-      leaves u h z = record {
+      leaves : ((y : ℕ) → c.beyond x y ≡ y) → (u : State) → knows taken ≡ false → Restored plan taken (outs_of k.block.outs whole) whole.mem a u → Leaves plan x p a u
+      leaves literal u h z = record {
         unknown = h;
         restored = record {
           own = z.own;
@@ -159,17 +159,18 @@ module _ (dest : Dest → ℕ) (exe : Exe) (edges : List Edge) (c : Coded) (x : 
           regs = λ r l. z.regs r l ∙ out_all h r (omega arith);
           flags = λ f. z.flags f ∙ out_all h (number f) (number_small f);
           df = z.df ∙ out_all h 13 (omega arith);
-          eip = z.eip;
+          eip = z.eip ∙ sym (literal taken);
           shows = z.shows;
           brk_start = z.brk_start;
           brk = z.brk;
         };
+        ready = λ far. absurd (far (literal taken));
       }
 
       -- the whole fragment
-      pub pieces_pass : (n : ℕ) → ExitWithin knows ys pieces k.block.exit n → PassesIn dest c.code (pieces.body ++ exit_items knows ys pieces k.block.exit) (count_of pieces.body + n) (λ at u. Sees c.code u a × (u.eip ≡ at)) (λ u. Arrives plan x p a u ⊎ Leaves plan x p a u)
-      pieces_pass n few at u cs s h =
+      pub pieces_pass : ((y : ℕ) → c.beyond x y ≡ y) → (n : ℕ) → ExitWithin knows ys pieces k.block.exit n → PassesIn dest c.code (pieces.body ++ exit_items knows ys pieces k.block.exit) (count_of pieces.body + n) (λ at u. Sees c.code u a × (u.eip ≡ at)) (λ u. Arrives plan x p a u ⊎ Leaves plan x p a u)
+      pieces_pass literal n few at u cs s h =
           let to : exit_of k.block.exit env ≡ taken = body_exit c.home (c.live x) (lift_of exe x) (exits_of exe edges c x) k serves p (λ v. a.cell (c.home v)) a.outer small bytes allowed homes in
           let g = body_then dest c.code pieces.body (exit_items knows ys pieces k.block.exit) n (λ at u. Sees c.code u a × (u.eip ≡ at)) (Held c k env a) (End (exit_of k.block.exit env)) (λ at u cs s h. run.body at u cs s h.0 h.1) (by_exit k.block.exit refl n few) at u cs s h in
           gets_map (End (exit_of k.block.exit env)) (λ u. Arrives plan x p a u ⊎ Leaves plan x p a u) 1 1 _ _ u cs (omega arith) (omega arith)
-          (λ w d. ⊎_elim (λ (t : (knows taken ≡ true) × Tailed c k env a taken w). inl (arrives w t.0 t.1)) (λ (t : (knows taken ≡ false) × Restored plan taken (outs_of k.block.outs whole) whole.mem a w). inr (leaves w t.0 t.1)) (subst (λ y. End y w) to d)) g
+          (λ w d. ⊎_elim (λ (t : (knows taken ≡ true) × Tailed c k env a taken w). inl (arrives w t.0 t.1)) (λ (t : (knows taken ≡ false) × Restored plan taken (outs_of k.block.outs whole) whole.mem a w). inr (leaves literal w t.0 t.1)) (subst (λ y. End y w) to d)) g

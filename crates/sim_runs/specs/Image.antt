@@ -3,7 +3,7 @@ use Rattle.std.specs.Prelude.{◌≡◌, ℕ, ◌^◌, ◌<◌, true, false, Lis
 use Rattle.br_word.specs.Memory.{Region}
 use Rattle.br_word.specs.State.{State, Running}
 use Rattle.code_laws.specs.Seen.{private_region}
-use Rattle.sim_runs.specs.Relation.{Plan, Ready, IsBeside}
+use Rattle.sim_runs.specs.Relation.{Plan, Ready, IsBeside, aside}
 use Rattle.sim_runs.specs.Laws.{Leads, Captured}
 
 -- the two guests at their openings
@@ -14,7 +14,7 @@ pub record Opening (plan : Plan) (Static : State → Type 0) (top : ℕ) (s t : 
   pub ready : Ready own s.cpu.df
   pub wider : IsBeside plan own 0x01000000 s t
   pub captured : plan.is_start s.eip ≡ true → (cs : List ℕ) → Leads (Captured plan s.eip s.regions t) top t cs
-  pub jumps : plan.is_start s.eip ≡ false → (cs : List ℕ) → Leads (λ u. IsBeside plan own s.eip s u) top t cs
+  pub jumps : plan.is_start s.eip ≡ false → (cs : List ℕ) → Leads (λ u. IsBeside plan own (aside plan s.eip) s u) top t cs
 
 -- what a capture needs
 pub record Capturable (plan : Plan) (outer : List Region) (t : State) : Type 0 where

@@ -4,6 +4,10 @@ use Rattle.br_word.specs.Memory.{Region}
 use Rattle.br_word.specs.Words.{bit}
 use Rattle.br_word.specs.State.{State, Running, Flag, flag_of}
 use Rattle.run_model.specs.Run.{observed, run}
+use Rattle.ia_inst.specs.declared.inst.Inst.{Inst}
+use Rattle.ia_inst.specs.declared.inst.Kind.TheVariants as kinds
+use Rattle.ia_inst.specs.Kinds.{kind_of}
+use Rattle.block_cut.specs.Transfers.{is_indirect}
 use Rattle.ia_inst.specs.Act.{Past, Again}
 use Rattle.ia_inst.specs.Meaning.{wrap, meaning}
 use Rattle.ia_inst.specs.Step.{step, IsWellDefined, found, There}
@@ -12,7 +16,8 @@ use Rattle.ssa_form.specs.Agree.{number, AgreesOn, AreBits, every}
 use Rattle.code_laws.specs.Seen.{Cells, private_region, Sees}
 use Rattle.sim_runs.specs.Forward.{AllGood}
 use Rattle.sim_runs.specs.Native.{AllEnds}
-use Rattle.sim_runs.specs.Relation.{Plan, at_home, Ready}
+use Rattle.sim_runs.specs.Passes.{Gets}
+use Rattle.sim_runs.specs.Relation.{Plan, at_home, AtBlock, Ready, IsBeside, InPlace, InCopy, IsOver}
 
 -- within so many steps, in recovered code and with nothing new shown, to a state of P
 pub record Leads (P : State → Type 0) (high : ℕ) (t : State) (cs : List ℕ) : Type 0 where
@@ -63,10 +68,11 @@ pub record Arrives (plan : Plan) (x : ℕ) (p : ℕ → ℕ) (a : Cells) (t : St
   pub bits : AreBits (at_home plan cells)
   pub stays : Stays a cells
 
--- or to the original, with all registers in place
+-- or with all registers in place to the original, or to the place of the code from which it goes on
 pub record Leaves (plan : Plan) (x : ℕ) (p : ℕ → ℕ) (a : Cells) (t : State) : Type 0 where
   pub unknown : plan.knows x (plan.exit x p a.outer) ≡ false
-  pub restored : Restored plan (plan.exit x p a.outer) (plan.outs x p a.outer) (plan.memory x p a.outer) a t
+  pub restored : Restored plan (plan.beyond x (plan.exit x p a.outer)) (plan.outs x p a.outer) (plan.memory x p a.outer) a t
+  pub ready : (plan.beyond x (plan.exit x p a.outer) ≡ plan.exit x p a.outer → ⊥) → Ready restored.own t.cpu.df
 
 -- the own bytes of a native instruction are next
 pub record Opens (plan : Plan) (x : ℕ) (a : Cells) (t : State) : Type 0 where
@@ -148,3 +154,49 @@ pub record IslandLaws (plan : Plan) (Static : State → Type 0) (opening closing
       → t.regions ≡ plan.code ∷ private_region own ∷ outer → Ready own t.cpu.df → length t.cpu.regs ≡ 8
       → ((r : ℕ) → r < 8 → get_or t.cpu.regs r 0 < 2 ^ 32) → t.stop ≡ Running → t.eip ≡ wrap (plan.native x + plan.len x)
       → Leads (Captured plan (past plan x) outer t) closing t cs
+
+-- ---- copies of the original's instructions
+
+-- the original's next instruction is a transfer whose target is no part of it
+pub record IsIndirect (s : State) : Type 0 where
+  pub inst : Inst
+  pub len : ℕ
+  pub here : found s.eip s.regions ≡ There inst len
+  pub kind : kind_of inst ≡ kinds.Transfer
+  pub indirect : is_indirect inst ≡ true
+
+-- the file has come to where it goes on for the original's eip: to a block, to a copy, or anywhere, where the
+-- original's next step is not well defined
+pub data Landed (plan : Plan) (Static : State → Type 0) (s t : State) : Type 0 where
+  in_block : (y : ℕ) → AtBlock plan Static y s t → Landed plan Static s t
+  in_copy : plan.cold s.eip ≡ true → InPlace plan (plan.copy s.eip 0) s t → Landed plan Static s t
+  nowhere : (IsWellDefined s → ⊥) → observed t ≡ observed s → Landed plan Static s t
+
+-- behind one step of the original, from a copy: at an instruction of a copy, landed, at the original, where an
+-- indirect transfer led to neither a block nor a copy, or over
+pub data After (plan : Plan) (Static : State → Type 0) (before s t : State) : Type 0 where
+  in_place : (x k : ℕ) → InCopy plan Static x k s t → After plan Static before s t
+  lands : s.stop ≡ Running → Landed plan Static s t → After plan Static before s t
+  leaves : IsIndirect before → s.stop ≡ Running → plan.is_start s.eip ≡ false → plan.cold s.eip ≡ false
+      → (own : List ℕ) → length own ≡ 65536 → IsBeside plan own s.eip s t → After plan Static before s t
+  stops : IsOver s.stop → observed t ≡ observed s → t.eip < 0x07000000 → After plan Static before s t
+
+-- one step of the original, and some of the file
+pub record Turned (plan : Plan) (Static : State → Type 0) (high : ℕ) (s t : State) (cs : List ℕ) : Type 0 where
+  pub steps : ℕ
+  pub going : 0 < steps
+  pub bound : steps ≤ high
+  pub shows : (i : ℕ) → i ≤ steps → (j : ℕ) × (j ≤ 1) × (observed (run i t cs) ≡ observed (run j s []))
+  pub inside : (i : ℕ) → i < steps → (run i t cs).eip < 0x07000000
+  pub next : After plan Static s (step s 0) (run steps t cs)
+
+-- copies, and the places to which blocks go for exits that are not known
+pub record CopyLaws (plan : Plan) (Static : State → Type 0) (high : ℕ) : Type 0 where
+  pub turns : (x k : ℕ) (s t : State) (cs : List ℕ) → InCopy plan Static x k s t → IsWellDefined s → Static (step s 0)
+      → Turned plan Static high s t cs
+  pub first : (x : ℕ) → plan.cold x ≡ true → 0 < plan.copied x → plan.original x 0 ≡ x
+  pub empty : (x : ℕ) (s : State) → plan.cold x ≡ true → plan.copied x ≡ 0 → Static s → s.stop ≡ Running → s.eip ≡ x
+      → IsWellDefined s → ⊥
+  pub beyond : (x : ℕ) (s t : State) (cs : List ℕ) → plan.is_start x ≡ true → plan.is_island x ≡ false
+      → plan.knows x s.eip ≡ false → (plan.beyond x s.eip ≡ s.eip → ⊥) → Static s → s.stop ≡ Running
+      → InPlace plan (plan.beyond x s.eip) s t → Gets (Landed plan Static s) 0 high t cs

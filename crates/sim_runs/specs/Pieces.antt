@@ -175,8 +175,9 @@ pub record IsLinked (code : Region) (address : ℕ → ℕ) (at : ℕ) (is : Lis
   pub valid : AreValid is
   pub distinct : AreDistinct is
 
--- each fragment is linked at its address, and its pieces do what they have to
+-- each fragment is linked at its address, its pieces do what they have to, and those for an exit that is not known lead there itself
 pub record FragmentsMade (exe : Exe) (edges : List Edge) (c : Coded) (coding : ℕ → Coding) : Type 0 where
+  pub literal : (x y : ℕ) → c.beyond x y ≡ y
   pub pieces : ℕ → Pieces
   pub linked : (x : ℕ) → is_start_of exe edges x ≡ true → is_island_end (block_of exe x).end ≡ false
       → IsLinked c.code c.address (c.address x) (fragment_items exe edges (coding x) (pieces x) x)

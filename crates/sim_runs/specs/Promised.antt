@@ -1,16 +1,17 @@
 -- What the parts of a recovered file promise: all that the simulation assumes.
-use Rattle.std.specs.Prelude.{◌≡◌, ℕ, ◌+◌, ◌<◌, ◌≤◌, Bool, true, false, not, ◌&&◌, ◌||◌, List, [], ◌∷◌, length, Ok, ◌⊎◌}
+use Rattle.std.specs.Prelude.{◌≡◌, ℕ, ◌+◌, ◌<◌, ◌≤◌, Bool, true, false, not, ◌&&◌, ◌||◌, List, [], ◌∷◌, length, Contains, Ok, ◌⊎◌}
 use Rattle.br_word.specs.Memory.{Region, HoldBytes}
-use Rattle.br_word.specs.State.{State}
+use Rattle.br_word.specs.State.{State, Running}
 use Rattle.elf_read.specs.declared.exe.Segment.{Segment}
 use Rattle.elf_read.specs.declared.exe.Exe.{Exe}
 use Rattle.elf_read.specs.declared.exe.Reach.TheVariants.{Guest}
 use Rattle.elf_read.specs.Elf.{elf}
 use Rattle.elf_read.specs.Regions.{region_of}
 use Rattle.ia_inst.specs.Meaning.{wrap}
-use Rattle.ia_inst.specs.Step.{There, found}
+use Rattle.ia_inst.specs.Step.{There, found, IsWellDefined}
 use Rattle.run_model.specs.Edges.{Edge}
-use Rattle.block_cut.specs.Blocks.{block_of}
+use Rattle.block_cut.specs.declared.ends.End.TheVariants.{Transfer}
+use Rattle.block_cut.specs.Blocks.{last_of, block_of}
 use Rattle.block_cut.specs.CountedEdges.{counting}
 use Rattle.flow_graph.specs.Graph.{known_of}
 use Rattle.sim_laws.specs.InCode.{IsStateOf}
@@ -23,8 +24,8 @@ use Rattle.ssa_form.specs.Same.{AreSmall, end_env, IsAllowedAt}
 use Rattle.lift_flow.specs.LiftedBlock.{lift_of}
 use Rattle.code_laws.specs.Seen.{Cells, private_region, Sees}
 use Rattle.sim_runs.specs.Coding.{Coding, Exits, Serves}
-use Rattle.sim_runs.specs.Relation.{Plan, at_home}
-use Rattle.sim_runs.specs.Laws.{Leads, Arrives, Leaves, Opens, Captured, past}
+use Rattle.sim_runs.specs.Relation.{Plan, at_home, aside}
+use Rattle.sim_runs.specs.Laws.{Leads, Arrives, Leaves, Opens, Captured, past, CopyLaws}
 use Rattle.sim_runs.specs.Image.{Capturable}
 use Rattle.sim_runs.specs.Recovered.{Coded, is_island_end, is_start_of, knows_of, plan_of}
 
@@ -81,8 +82,8 @@ FragmentRuns exe edges c coding high = (x : ℕ) (p : ℕ → ℕ) (t : State) (
     → ServesAt exe edges c x (coding x) → Runs exe c x p t a
     → Leads (λ u. Arrives (plan_of exe edges c) x p a u ⊎ Leaves (plan_of exe edges c) x p a u) high t cs
 
--- the exchange of state: into a native instruction, out of it, and at the entry, which jumps to the original
--- where no run began
+-- the exchange of state: into a native instruction, out of it, and at the entry, which jumps to a copy or the
+-- original where no run began
 pub record Exchanges (exe : Exe) (plan : Plan) (opening closing top : ℕ) : Type 0 where
   pub opens : (x : ℕ) (t : State) (a : Cells) (cs : List ℕ) → plan.is_island x ≡ true
       → Sees plan.code t a → t.eip ≡ plan.address x → AreBits (at_home plan a) → Leads (Opens plan x a) opening t cs
@@ -93,7 +94,7 @@ pub record Exchanges (exe : Exe) (plan : Plan) (opening closing top : ℕ) : Typ
   pub enters : (t : State) (outer : List Region) (cs : List ℕ) → plan.is_start exe.entry ≡ true
       → Capturable plan outer t → t.eip ≡ 0x01000000 → Leads (Captured plan exe.entry outer t) top t cs
   pub passes : (t : State) (outer : List Region) (cs : List ℕ) → plan.is_start exe.entry ≡ false
-      → Capturable plan outer t → t.eip ≡ 0x01000000 → Leads (λ u. u ≡ record t { eip = exe.entry }) top t cs
+      → Capturable plan outer t → t.eip ≡ 0x01000000 → Leads (λ u. u ≡ record t { eip = aside plan exe.entry }) top t cs
 
 -- ---- the file
 
@@ -121,9 +122,19 @@ pub record IsLaid (exe : Exe) (plan : Plan) (file : List ℕ) : Type 0 where
   pub inside : (x : ℕ) → plan.is_island x ≡ true → plan.native x + plan.len x < 0x07000000
   pub live : (x v : ℕ) → v < 14 → plan.is_island x ≡ true → plan.live x v ≡ true
 
--- all of it, with the bounds on steps: of a fragment, of the exchanges round a native instruction, and at the entry
-pub record Laws (exe : Exe) (edges : List Edge) (file : List ℕ) (c : Coded) : Type 0 where
+-- the edges that count besides the recorded ones: each leads to a start or a copy, and none of a block leads where
+-- the block leaves the code, but to where nothing runs
+pub record Further (exe : Exe) (further : List Edge) (plan : Plan) : Type 0 where
+  pub met : (e : Edge) → Contains further e → (plan.is_start e.1 ≡ true) ⊎ (plan.cold e.1 ≡ true)
+  pub apart : (x y : ℕ) → plan.is_start x ≡ true → (block_of exe x).end ≡ Transfer → plan.knows x y ≡ false
+      → plan.beyond x y ≡ y → Contains further (last_of x (block_of exe x).insts, y)
+      → (s : State) → IsOf exe s → s.stop ≡ Running → s.eip ≡ y → IsWellDefined s → ⊥
+
+-- all of it, with the bounds on steps: of a fragment, of a step from a copy or the way to one, of the exchanges round
+-- a native instruction, and at the entry
+pub record Laws (exe : Exe) (edges further : List Edge) (file : List ℕ) (c : Coded) : Type 0 where
   pub plain : ℕ
+  pub turn : ℕ
   pub opening : ℕ
   pub closing : ℕ
   pub top : ℕ
@@ -132,9 +143,11 @@ pub record Laws (exe : Exe) (edges : List Edge) (file : List ℕ) (c : Coded) : 
       → ServesAt exe edges c x (coding x)
   pub fragment : FragmentRuns exe edges c coding plain
   pub exchange : Exchanges exe (plan_of exe edges c) opening closing top
+  pub copies : CopyLaws (plan_of exe edges c) (IsOf exe) turn
+  pub met : Further exe further (plan_of exe edges c)
   pub laid : IsLaid exe (plan_of exe edges c) file
   pub high : ℕ
-  pub plain_bound : plain ≤ high
+  pub plain_bound : plain + turn ≤ high
   pub island_bound : opening + (1 + closing) ≤ high
   pub high_bound : high ≤ length file
   pub top_bound : top ≤ length file

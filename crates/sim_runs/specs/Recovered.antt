@@ -20,13 +20,19 @@ use Rattle.ssa_form.specs.Same.{end_env}
 use Rattle.sim_runs.specs.Relation.{Plan}
 
 -- the recovered code: where virtual registers are kept, what is live at each start, where the fragment of a
--- start stands, and in it the own bytes of a native instruction
+-- start stands, and in it the own bytes of a native instruction; which starts have a copy of the original's
+-- instructions, how many and where, and where a block goes for an exit that is not known
 pub record Coded : Type 0 where
   pub code : Region
   pub home : ℕ → Place
   pub live : ℕ → ℕ → Bool
   pub address : ℕ → ℕ
   pub native : ℕ → ℕ
+  pub cold : ℕ → Bool
+  pub copied : ℕ → ℕ
+  pub original : ℕ → ℕ → ℕ
+  pub copy : ℕ → ℕ → ℕ
+  pub beyond : ℕ → ℕ → ℕ
 
 -- a block that is a native instruction
 abbrev pub is_island_end : End → Bool
@@ -63,4 +69,9 @@ plan_of exe edges c = record {
   inst = λ x. first_inst (block_of exe x).insts;
   len = λ x. size_of (block_of exe x).insts;
   native = c.native;
+  cold = c.cold;
+  copied = c.copied;
+  original = c.original;
+  copy = c.copy;
+  beyond = c.beyond;
 }

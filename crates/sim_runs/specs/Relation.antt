@@ -1,5 +1,5 @@
 -- What holds between the two guests between two blocks.
-use Rattle.std.specs.Prelude.{◌≡◌, ℕ, ◌<◌, Bool, true, List, [], ◌∷◌, length, get_or}
+use Rattle.std.specs.Prelude.{◌≡◌, ℕ, ◌<◌, Bool, true, if◌then◌else◌, List, [], ◌∷◌, length, get_or}
 use Rattle.br_word.specs.declared.types.Flags.{Flags}
 use Rattle.br_word.specs.Memory.{Region}
 use Rattle.br_word.specs.Words.{bit}
@@ -34,6 +34,14 @@ pub record Plan : Type 0 where
   pub inst : ℕ → Inst
   pub len : ℕ → ℕ
   pub native : ℕ → ℕ
+  -- of copies of the original's instructions: the starts that have one, how many instructions it has, and where
+  -- instruction k of it stands in the original and in the code
+  pub cold : ℕ → Bool
+  pub copied : ℕ → ℕ
+  pub original : ℕ → ℕ → ℕ
+  pub copy : ℕ → ℕ → ℕ
+  -- where a block goes for an exit that is not known: to that address itself, or to a place of the code
+  pub beyond : ℕ → ℕ → ℕ
 
 -- the regions that the file's guest has besides the original's
 abbrev pub extra_of : Plan → List ℕ → List Region
@@ -85,6 +93,26 @@ pub record AtNative (plan : Plan) (Static : State → Type 0) (x : ℕ) (s t : S
   pub ready : Ready own s.cpu.df
   pub wider : IsBeside plan own (plan.native x) s t
 
+-- the file's guest stands in place at an address: it has the original's registers and flags, and its own segment is
+-- ready for a capture
+pub record InPlace (plan : Plan) (at : ℕ) (s t : State) : Type 0 where
+  pub own : List ℕ
+  pub ready : Ready own s.cpu.df
+  pub wider : IsBeside plan own at s t
+
+-- the original stands at instruction k of what was copied from a start, and the file at its copy
+pub record InCopy (plan : Plan) (Static : State → Type 0) (x k : ℕ) (s t : State) : Type 0 where
+  pub cold : plan.cold x ≡ true
+  pub within : k < plan.copied x
+  pub eip : s.eip ≡ plan.original x k
+  pub goes : s.stop ≡ Running
+  pub static : Static s
+  pub stands : InPlace plan (plan.copy x k) s t
+
+-- where the code goes on for an address that is no start: at its copy, or in the original
+abbrev pub aside : Plan → ℕ → ℕ
+aside plan y = if plan.cold y then plan.copy y 0 else y
+
 -- it has exited or faulted
 abbrev pub IsOver : RunState → Type 0
 IsOver Running = ⊥
@@ -106,6 +134,7 @@ pub record Doomed (s t : State) : Type 0 where
 pub data Related (plan : Plan) (Static W : State → Type 0) (may : Type 0) (s t : State) : Type 0 where
   at_block : (x : ℕ) → AtBlock plan Static x s t → Related plan Static W may s t
   at_native : (x : ℕ) → AtNative plan Static x s t → Related plan Static W may s t
+  at_copy : (x k : ℕ) → InCopy plan Static x k s t → Related plan Static W may s t
   gone : may → (own : List ℕ) → length own ≡ 65536 → IsHigh 0x08000000 s → IsBeside plan own s.eip s t
       → Related plan Static W may s t
   over : Over W s t → Related plan Static W may s t

@@ -17,6 +17,6 @@ returns c =
       quiet = c.blocks_are_quiet.ensures;
     } in
     record {
-      relate = λ e exe edges file k ok laws. moves_on below e exe ok edges file k laws;
-      stays = λ e exe edges file k ok laws. keeps_on below e exe ok edges file k laws;
+      relate = λ e exe edges further file k ok laws. moves_on below e exe ok edges further file k laws;
+      stays = λ e exe edges further file k ok laws. keeps_on below e exe ok edges further file k laws;
     }

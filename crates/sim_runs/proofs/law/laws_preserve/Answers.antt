@@ -17,6 +17,6 @@ returns c =
       quiet = c.blocks_are_quiet.ensures;
     } in
     record {
-      both = λ e exe edges file k ok laws. (preserves below e exe ok edges file k laws, covers below e exe ok edges file k laws);
-      within = λ e exe edges file k ok laws. reaches_within below e exe ok edges file k laws;
+      both = λ e exe edges further file k ok laws. (preserves below e exe ok edges further file k laws, covers below e exe ok edges further file k laws);
+      within = λ e exe edges further file k ok laws. reaches_within below e exe ok edges further file k laws;
     }
