@@ -1,11 +1,11 @@
 -- The labels of a piece by their offsets.
-use Rattle.std.specs.Prelude.{◌≡◌, ℕ, IsTrue, List, [], ◌∷◌, Option, Some, None, slice_get}
-use Rattle.ia_inst.specs.Canonical.{valid_of}
-use Rattle.ia_encode.specs.declared.item.Dest.{Dest}
+use Rattle.std.specs.Prelude.{ℕ, ◌+◌, ◌-◌, ◌≤◌, IsTrue, List, [], ◌∷◌, ◌++◌, take, drop, Option, Some, None, slice_get}
+use Rattle.br_word.specs.Memory.{bytes_of}
+use Rattle.ia_inst.specs.Canonical.{valid_of, canonical}
 use Rattle.ia_encode.specs.declared.item.Dest.TheVariants as dests
 use Rattle.ia_encode.specs.declared.item.Item.{Item}
 use Rattle.ia_encode.specs.declared.item.Item.TheVariants as item
-use Rattle.ia_encode.specs.Items.{label_at, distance, IsCondition}
+use Rattle.ia_encode.specs.Items.{jump_inst, size_of_jump, distance, IsCondition}
 
 -- an instruction that has an encoding, a jump of a condition, a byte or a label
 abbrev pub IsItem : Item → Type 0
@@ -24,15 +24,34 @@ noted_or other (Some (Some offset)) = offset
 abbrev pub offset_in : List (Option ℕ) → ℕ → ℕ
 offset_in labels l = noted_or 0 (slice_get labels l)
 
--- the labels of these items are noted
-abbrev pub AreFound : List (Option ℕ) → List Item → Type 0
-AreFound labels items = (l : ℕ) → offset_in labels l ≡ label_at 0 items l
+-- the bytes of an item, each distance 0
+abbrev pub blank_bytes : Item → List ℕ
+blank_bytes (item.Jump cond d) = canonical (jump_inst cond 0)
+blank_bytes (item.Inst i) = canonical i
+blank_bytes (item.Byte b) = b ∷ []
+blank_bytes (item.Label l) = []
 
--- the distance that is written: that of a label, and 0 where it is filled in later
-abbrev pub open_distance : (Dest → ℕ) → ℕ → Dest → ℕ
-open_distance dest end (dests.Block y) = 0
-open_distance dest end (dests.Original y) = 0
-open_distance dest end (dests.Label l) = distance end (dest (dests.Label l))
+-- where an item's distance to a label stands, and the label
+abbrev pub local_of : ℕ → Item → List (ℕ × ℕ)
+local_of at (item.Jump cond (dests.Label l)) = (at + size_of_jump cond - 4, l) ∷ []
+local_of at (item.Jump cond (dests.Block y)) = []
+local_of at (item.Jump cond (dests.Original y)) = []
+local_of at (item.Inst i) = []
+local_of at (item.Byte b) = []
+local_of at (item.Label l) = []
+
+-- it lies in so many bytes
+abbrev pub IsInside : ℕ → ℕ × ℕ → Type 0
+IsInside n p = p.0 + 4 ≤ n
+
+-- a word put over four bytes, the lowest byte first
+abbrev pub with_word : ℕ → ℕ → List ℕ → List ℕ
+with_word at w bytes = take at bytes ++ (bytes_of 4 w ++ drop (at + 4) bytes)
+
+-- distances to labels, each from the end of its four bytes, put where they stand
+abbrev pub closed : (ℕ → ℕ) → List (ℕ × ℕ) → List ℕ → List ℕ
+closed offset [] bytes = bytes
+closed offset (p ∷ ps) bytes = closed offset ps (with_word p.0 (distance (p.0 + 4) (offset p.1)) bytes)
 
 -- at most one
 abbrev pub list_of : {A : Type 0} → Option A → List A

@@ -1,12 +1,9 @@
 //! Code with open distances.
-ghost use Rattle.std.specs.Prelude.{◌≡◌, ℕ, ◌+◌, ◌^◌, ◌<◌, ◌≤◌, ◌++◌, IsTrue, IfOk, OnOk, List, length, vec_len, slice_get, nat_eq, if◌then◌else◌};
+ghost use Rattle.std.specs.Prelude.{◌≡◌, ℕ, ◌+◌, ◌^◌, ◌<◌, ◌≤◌, ◌++◌, All, IsTrue, IfOk, OnOk, List, length, vec_len, slice_get, nat_eq, if◌then◌else◌};
 ghost use Rattle.ia_inst.specs.Canonical.{canonical, valid_of};
-ghost use Rattle.ia_encode.specs.declared.item.Dest.{Dest};
-ghost use Rattle.ia_encode.specs.declared.item.Dest.TheVariants as dests;
-ghost use Rattle.ia_encode.specs.declared.item.Item.TheVariants as item;
-ghost use Rattle.ia_encode.specs.Items.{AreValid, IsCondition, is_label, jump_inst, size_of_item, size_of_items, size_of_jump};
-ghost use Rattle.block_make.specs.FragmentCode.{code_of_items, fix_of, open_bytes};
-ghost use Rattle.block_make.specs.Labels.{AreFound, IsItem, list_of, noted_or, offset_in, open_distance};
+ghost use Rattle.ia_encode.specs.Items.{AreValid, distance, is_label, size_of_item, size_of_items, size_of_jump};
+ghost use Rattle.block_make.specs.FragmentCode.{code_of_items, fix_of};
+ghost use Rattle.block_make.specs.Labels.{IsItem, IsInside, list_of, noted_or, offset_in, blank_bytes, local_of, with_word, closed};
 
 use crate::fragment::Fix;
 use ia_encode::{Dest, Item, Piece, direct_lengths, encode};
@@ -54,18 +51,6 @@ impl Assembled {
     }
 }
 
-/// A jump as an instruction.
-fn jump_inst(cond: Option<u8>, rel: u32) -> Inst
-    requires { IsCondition cond }
-    ensures value { result ≡ jump_inst cond rel }
-    ensures valid { IsTrue (valid_of result) }
-{
-    match cond {
-        None => Inst::Jmp { rel },
-        Some(cond) => Inst::Jcc { cond, rel },
-    }
-}
-
 /// How many bytes a jump has.
 fn size_of_jump(cond: Option<u8>) -> u32
     ensures { result ≡ size_of_jump cond }
@@ -73,19 +58,6 @@ fn size_of_jump(cond: Option<u8>) -> u32
     match cond {
         None => 5,
         Some(_) => 6,
-    }
-}
-
-/// How many bytes an item has.
-fn size_of_item(item: &Item) -> u32
-    requires { IsItem item.now }
-    ensures size { result ≡ size_of_item item.now }
-{
-    match item {
-        Item::Inst(inst) => encode(inst, &mut [0; 15]) as u32,
-        Item::Byte(_) => 1,
-        Item::Jump { cond, .. } => size_of_jump(*cond),
-        Item::Label(_) => 0,
     }
 }
 
@@ -134,21 +106,6 @@ fn note_label(labels: &mut Vec<Option<u32>>, item: &Item, offset: u32) -> Result
     }
 }
 
-/// The offsets of labels. An error comes for want of memory.
-fn find_labels(alloc: Global, items: &[Item]) -> Result<Vec<Option<u32>>, AllocError>
-    requires valid { AreValid items.now }
-    requires short { size_of_items items.now < 2 ^ 32 }
-    ensures { IfOk result (λ labels. AreFound labels.items items.now) }
-{
-    let mut labels = Vec::new(alloc);
-    let mut offset = 0;
-    for index in 0..items.len() {
-        note_label(&mut labels, &items[index], offset)?;
-        offset += size_of_item(&items[index]);
-    }
-    Ok(labels)
-}
-
 /// Appends an instruction's bytes.
 fn write_inst(bytes: &mut Vec<u8>, inst: &Inst) -> Result<(), AllocError>
     requires { IsTrue (valid_of inst.now) }
@@ -159,49 +116,22 @@ fn write_inst(bytes: &mut Vec<u8>, inst: &Inst) -> Result<(), AllocError>
     bytes.extend_from_slice(&spelling[..length as usize])
 }
 
-/// The distance to a destination from the end of a jump: open but to a label.
-fn open_distance(labels: &[Option<u32>], to: Dest, end: u32) -> u32
-    ensures { (dest : Dest → ℕ) → ((l : ℕ) → offset_in labels.now l ≡ dest (dests.Label l)) → result ≡ open_distance dest end to }
+/// Appends the bytes of an item, where each distance is open.
+fn write_open(bytes: &mut Vec<u8>, item: &Item) -> Result<(), AllocError>
+    requires { IsItem item.now }
+    ensures { OnOk result (bytes.new.items ≡ bytes.old.items ++ blank_bytes item.now) }
 {
-    match to {
-        Dest::Label(name) => offset_in(labels, name).wrapping_sub(end),
-        Dest::Block(_) | Dest::Original(_) => 0,
-    }
-}
-
-/// Appends a jump, whose distance is open but to a label.
-fn write_jump(
-    bytes: &mut Vec<u8>,
-    labels: &[Option<u32>],
-    cond: Option<u8>,
-    to: Dest,
-) -> Result<(), AllocError>
-    requires cond { IsCondition cond }
-    requires room { vec_len bytes.old + size_of_jump cond < 2 ^ 32 }
-    ensures { (dest : Dest → ℕ) → ((l : ℕ) → offset_in labels.now l ≡ dest (dests.Label l)) →
-        OnOk result (bytes.new.items ≡ bytes.old.items ++ open_bytes dest (length bytes.old.items) (item.Jump cond to)) }
-{
-    let end = bytes.len() as u32 + size_of_jump(cond);
-    let rel = open_distance(labels, to, end);
-    let inst = jump_inst(cond, rel);
-    write_inst(bytes, &inst)?;
-    Ok(())
-}
-
-/// Appends the bytes of an item.
-fn write_item(bytes: &mut Vec<u8>, labels: &[Option<u32>], item: &Item) -> Result<(), AllocError>
-    requires item { IsItem item.now }
-    requires room { vec_len bytes.old + size_of_item item.now < 2 ^ 32 }
-    ensures { (dest : Dest → ℕ) → ((l : ℕ) → offset_in labels.now l ≡ dest (dests.Label l)) →
-        OnOk result (bytes.new.items ≡ bytes.old.items ++ open_bytes dest (length bytes.old.items) item.now) }
-{
-    match *item {
-        Item::Inst(inst) => write_inst(bytes, &inst),
+    match item {
+        Item::Inst(inst) => write_inst(bytes, inst),
         Item::Byte(byte) => {
-            bytes.push(byte)?;
+            bytes.push(*byte)?;
             Ok(())
         }
-        Item::Jump { cond, to } => write_jump(bytes, labels, cond, to),
+        Item::Jump { cond: None, .. } => bytes.extend_from_slice(&[0xe9, 0, 0, 0, 0]),
+        Item::Jump {
+            cond: Some(cond),
+            ..
+        } => bytes.extend_from_slice(&[0x0f, 0x80 + *cond, 0, 0, 0, 0]),
         Item::Label(_) => Ok(()),
     }
 }
@@ -246,6 +176,62 @@ fn note_fix(fixes: &mut Vec<Fix>, at: u32, item: &Item) -> Result<(), AllocError
     }
 }
 
+/// The distance to a label of an item at an offset, where it is a jump to one.
+fn local_of(at: u32, item: &Item) -> Option<(u32, u32)>
+    requires { at + size_of_item item.now < 2 ^ 32 }
+    ensures { list_of result ≡ local_of at item.now }
+{
+    match *item {
+        Item::Jump {
+            cond,
+            to: Dest::Label(name),
+        } => Some((at + size_of_jump(cond) - 4, name)),
+        _ => None,
+    }
+}
+
+/// Appends where the distance to a label stands, and the label, of an item at an offset that is a jump to one.
+fn note_local(locals: &mut Vec<(u32, u32)>, at: u32, item: &Item) -> Result<(), AllocError>
+    requires { at + size_of_item item.now < 2 ^ 32 }
+    ensures { OnOk result (locals.new.items ≡ locals.old.items ++ local_of at item.now) }
+{
+    match local_of(at, item) {
+        Some(local) => {
+            locals.push(local)?;
+            Ok(())
+        }
+        None => Ok(()),
+    }
+}
+
+/// Puts a word over four bytes, the lowest byte first.
+fn put_word(bytes: &mut [u8], at: usize, word: u32)
+    requires { at + 4 ≤ length bytes.old }
+    ensures { bytes.new ≡ with_word at word bytes.old }
+{
+    bytes[at..at + 4].copy_from_slice(&word.to_le_bytes());
+}
+
+/// The distance to a label from the end of a jump.
+fn distance_to(labels: &[Option<u32>], name: u32, end: u32) -> u32
+    ensures { result ≡ distance end (offset_in labels.now name) }
+{
+    offset_in(labels, name).wrapping_sub(end)
+}
+
+/// Fills in the distances to labels.
+fn close(bytes: &mut [u8], labels: &[Option<u32>], locals: &[(u32, u32)])
+    requires short { length bytes.old < 2 ^ 32 }
+    requires inside { All (IsInside (length bytes.old)) locals.now }
+    ensures { bytes.new ≡ closed (offset_in labels.now) locals.now bytes.old }
+{
+    for local in locals {
+        let (at, name) = *local;
+        let word = distance_to(labels, name, at + 4);
+        put_word(bytes, at as usize, word);
+    }
+}
+
 /// The code of a piece whose instructions have encodings, whose jumps have conditions and which has fewer than 2^32 bytes. A jump to a
 /// label that the piece does not have leads to its first byte.
 ///
@@ -257,13 +243,18 @@ pub fn assemble(alloc: Global, piece: &Piece) -> Result<Assembled, AllocError>
 {
     direct_lengths();
     let items = piece.items();
-    let labels = find_labels(alloc, items)?;
+    let mut labels = Vec::new(alloc);
     let mut bytes = Vec::new(alloc);
     let mut fixes = Vec::new(alloc);
+    let mut locals = Vec::new(alloc);
     for index in 0..items.len() {
-        let item = items[index];
-        note_fix(&mut fixes, bytes.len() as u32, &item)?;
-        write_item(&mut bytes, labels.as_slice(), &item)?;
+        let item = &items[index];
+        let at = bytes.len() as u32;
+        note_label(&mut labels, item, at)?;
+        note_fix(&mut fixes, at, item)?;
+        note_local(&mut locals, at, item)?;
+        write_open(&mut bytes, item)?;
     }
+    close(bytes.as_mut_slice(), labels.as_slice(), locals.as_slice());
     Ok(Assembled { bytes, fixes })
 }

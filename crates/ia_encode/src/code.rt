@@ -1,6 +1,6 @@
 //! The parts of a spelling: bytes, immediates and operands.
 
-ghost use Rattle.std.specs.Prelude.{◌≡◌, ℕ, ◌+◌, ◌<◌, ◌≤◌, List, [], ◌∷◌, ◌++◌, IsTrue};
+ghost use Rattle.std.specs.Prelude.{◌≡◌, ℕ, ◌+◌, ◌<◌, ◌≤◌, List, [], ◌∷◌, ◌++◌, length, take, IsTrue};
 ghost use Rattle.ia_encode.specs.Written.{written};
 ghost use Rattle.ia_inst.specs.Operands.{two, four, fields};
 ghost use Rattle.ia_inst.specs.Spells.{size, pair, imm};
@@ -29,72 +29,92 @@ impl Code {
         }
     }
 
-    /// One byte more.
-    pub fn byte(self, byte: u8) -> Code
-        requires { self.length < 15 }
-        ensures written { written result ≡ written self ++ byte ∷ [] }
-        ensures length { result.length ≡ self.length + 1 }
+    /// Hands out the bytes, and answers how many are written.
+    #[inline(always)]
+    pub fn give(self, out: &mut [u8; 15]) -> u8
+        requires { self.length ≤ 15 }
+        ensures length { result ≡ length (written self) }
+        ensures short { result ≤ 15 }
+        ensures written { take result out.new ≡ written self }
     {
-        let mut bytes = self.bytes;
-        bytes[self.length] = byte;
-        Code {
-            bytes,
-            length: self.length + 1,
-        }
+        let bytes = self.bytes;
+        *out = bytes;
+        self.length as u8
+    }
+
+    /// One byte more.
+    #[inline(always)]
+    pub fn byte(&mut self, byte: u8)
+        requires { self.old.length < 15 }
+        ensures written { written self.new ≡ written self.old ++ byte ∷ [] }
+        ensures length { self.new.length ≡ self.old.length + 1 }
+    {
+        self.bytes[self.length] = byte;
+        self.length += 1;
     }
 
     /// Two bytes more, the lowest first.
-    pub fn two(self, n: u16) -> Code
-        requires { self.length < 14 }
-        ensures written { written result ≡ written self ++ two n }
-        ensures length { result.length ≡ self.length + 2 }
+    #[inline(always)]
+    pub fn two(&mut self, n: u16)
+        requires { self.old.length < 14 }
+        ensures written { written self.new ≡ written self.old ++ two n }
+        ensures length { self.new.length ≡ self.old.length + 2 }
     {
         let [a, b] = n.to_le_bytes();
-        self.byte(a).byte(b)
+        self.byte(a);
+        self.byte(b);
     }
 
     /// Four bytes more, the lowest first.
-    pub fn four(self, n: u32) -> Code
-        requires { self.length < 12 }
-        ensures written { written result ≡ written self ++ four n }
-        ensures length { result.length ≡ self.length + 4 }
+    #[inline(always)]
+    pub fn four(&mut self, n: u32)
+        requires { self.old.length < 12 }
+        ensures written { written self.new ≡ written self.old ++ four n }
+        ensures length { self.new.length ≡ self.old.length + 4 }
     {
-        let [a, b, c, d] = n.to_le_bytes();
-        self.byte(a).byte(b).byte(c).byte(d)
+        let at = self.length;
+        self.bytes[at..at + 4].copy_from_slice(&n.to_le_bytes());
+        self.length = at + 4;
     }
 
     /// The prefix 66 where the width is 16.
-    pub fn size(self, w: Width) -> Code
-        requires { self.length < 15 }
-        ensures written { written result ≡ written self ++ size w }
-        ensures length { result.length ≤ self.length + 1 }
+    #[inline(always)]
+    pub fn size(&mut self, w: Width)
+        requires { self.old.length < 15 }
+        ensures written { written self.new ≡ written self.old ++ size w }
+        ensures length { self.new.length ≤ self.old.length + 1 }
     {
         match w {
             Width::B16 => self.byte(0x66),
-            Width::B8 | Width::B32 => self,
+            Width::B8 | Width::B32 => {}
         }
     }
 
     /// The opcode of a pair.
-    pub fn pair(self, w: Width, first: u8) -> Code
-        requires room { self.length < 14 }
+    #[inline(always)]
+    pub fn pair(&mut self, w: Width, first: u8)
+        requires room { self.old.length < 14 }
         requires first { first < 255 }
-        ensures written { written result ≡ written self ++ pair w first }
-        ensures length { result.length ≤ self.length + 2 }
+        ensures written { written self.new ≡ written self.old ++ pair w first }
+        ensures length { self.new.length ≤ self.old.length + 2 }
     {
         match w {
             Width::B8 => self.byte(first),
-            Width::B16 => self.byte(0x66).byte(first + 1),
+            Width::B16 => {
+                self.byte(0x66);
+                self.byte(first + 1);
+            }
             Width::B32 => self.byte(first + 1),
         }
     }
 
     /// An immediate of a width.
-    pub fn immediate(self, w: Width, n: u32) -> Code
-        requires room { self.length < 12 }
+    #[inline(always)]
+    pub fn immediate(&mut self, w: Width, n: u32)
+        requires room { self.old.length < 12 }
         requires fits { IsTrue (imm_valid w n) }
-        ensures written { written result ≡ written self ++ imm w n }
-        ensures length { result.length ≤ self.length + 4 }
+        ensures written { written self.new ≡ written self.old ++ imm w n }
+        ensures length { self.new.length ≤ self.old.length + 4 }
     {
         match w {
             Width::B8 => self.byte(n as u8),
@@ -104,75 +124,76 @@ impl Code {
     }
 
     /// The displacement of an address: none, one byte or four (SDM volume 2, 2.1.3).
-    fn displacement(self, base: u8, disp: u32) -> Code
-        requires { self.length < 12 }
-        ensures written { written result ≡ written self ++ displacement base disp }
-        ensures length { result.length ≤ self.length + 4 }
+    #[inline(always)]
+    fn displacement(&mut self, base: u8, disp: u32)
+        requires { self.old.length < 12 }
+        ensures written { written self.new ≡ written self.old ++ displacement base disp }
+        ensures length { self.new.length ≤ self.old.length + 4 }
     {
-        if disp == 0 && base != 5 {
-            self
-        } else if fits_signed_byte(disp) {
-            self.byte((disp % 256) as u8)
+        if disp == 0 && base != 5 {} else if fits_signed_byte(disp) {
+            self.byte((disp % 256) as u8);
         } else {
-            self.four(disp)
+            self.four(disp);
         }
     }
 
     /// An address with a base register, and with an index or without (SDM volume 2, 2.1.5).
-    fn based(self, reg: u8, base: u8, index: Option<(u8, u8)>, disp: u32) -> Code
-        requires room { self.length < 10 }
+    fn based(&mut self, reg: u8, base: u8, index: Option<(u8, u8)>, disp: u32)
+        requires room { self.old.length < 10 }
         requires reg { reg < 8 }
         requires base { base < 8 }
         requires index { IsTrue (index_valid index) }
-        ensures written { written result ≡ written self ++ based_bytes reg base index disp }
-        ensures length { result.length ≤ self.length + 6 }
+        ensures written { written self.new ≡ written self.old ++ based_bytes reg base index disp }
+        ensures length { self.new.length ≤ self.old.length + 6 }
     {
         let mode = mode(base, disp);
         match index {
             None => {
                 if base == 4 {
-                    let code = self.byte(fields(mode, reg, 4)).byte(fields(0, 4, base));
-                    code.displacement(base, disp)
+                    self.byte(fields(mode, reg, 4));
+                    self.byte(fields(0, 4, base));
                 } else {
-                    self.byte(fields(mode, reg, base)).displacement(base, disp)
+                    self.byte(fields(mode, reg, base));
                 }
             }
             Some((register, scale)) => {
-                let code = self
-                    .byte(fields(mode, reg, 4))
-                    .byte(fields(log(scale), register, base));
-                code.displacement(base, disp)
+                self.byte(fields(mode, reg, 4));
+                self.byte(fields(log(scale), register, base));
             }
         }
+        self.displacement(base, disp);
     }
 
     /// A place in memory.
-    fn memory(self, reg: u8, addr: &Addr) -> Code
-        requires room { self.length < 10 }
+    fn memory(&mut self, reg: u8, addr: &Addr)
+        requires room { self.old.length < 10 }
         requires reg { reg < 8 }
         requires valid { IsTrue (address_valid addr.now) }
-        ensures written { written result ≡ written self ++ memory_bytes reg addr.now.base addr.now.index addr.now.disp }
-        ensures length { result.length ≤ self.length + 6 }
+        ensures written { written self.new ≡ written self.old ++ memory_bytes reg addr.now.base addr.now.index addr.now.disp }
+        ensures length { self.new.length ≤ self.old.length + 6 }
     {
         match (addr.base, addr.index) {
-            (None, None) => self.byte(fields(0, reg, 5)).four(addr.disp),
+            (None, None) => {
+                self.byte(fields(0, reg, 5));
+                self.four(addr.disp);
+            }
             (None, Some((register, scale))) => {
-                let code = self
-                    .byte(fields(0, reg, 4))
-                    .byte(fields(log(scale), register, 5));
-                code.four(addr.disp)
+                self.byte(fields(0, reg, 4));
+                self.byte(fields(log(scale), register, 5));
+                self.four(addr.disp);
             }
             (Some(base), index) => self.based(reg, base, index, addr.disp),
         }
     }
 
     /// A register or a place in memory, with a number in the reg field.
-    pub fn operand(self, reg: u8, rm: &Rm) -> Code
-        requires room { self.length < 10 }
+    #[inline(never)]
+    pub fn operand(&mut self, reg: u8, rm: &Rm)
+        requires room { self.old.length < 10 }
         requires reg { reg < 8 }
         requires valid { IsTrue (rm_valid rm.now) }
-        ensures written { written result ≡ written self ++ operand_bytes reg rm.now }
-        ensures length { result.length ≤ self.length + 6 }
+        ensures written { written self.new ≡ written self.old ++ operand_bytes reg rm.now }
+        ensures length { self.new.length ≤ self.old.length + 6 }
     {
         match rm {
             Rm::Reg(register) => self.byte(fields(3, reg, *register)),
