@@ -10,5 +10,6 @@ pub mod Act
 pub mod Meaning
 pub mod System
 pub mod Step
+pub mod Stands
 pub mod Fits
 pub mod Kinds

@@ -106,11 +106,11 @@ module _ (homes : Homes) (plan : Plan) (dest : Dest → ℕ) (meet : HomesMeet h
       ((keeps t a cs h f).opening bytes label to next (subst (λ y. Stands dest plan.code y (island_items homes bytes label next) to) (sym e) s))))
 
   -- ---- capture
-  own_cell : State → List ℕ → Place → ℕ
+  pub own_cell : State → List ℕ → Place → ℕ
   own_cell t own (Reg r) = get_or t.cpu.regs r 0
   own_cell t own (Slot v) = word own v
 
-  abbrev first : State → List ℕ → List Region → Cells
+  abbrev pub first : State → List ℕ → List Region → Cells
   first t own outer = record { cell = own_cell t own; flags = t.cpu.flags; marks = t.cpu.marks; df = t.cpu.df; outer = outer; seen = observed t; brk_start = t.brk_start; brk = t.brk }
 
   pub first_seen : (t : State) (outer : List Region) (c : Capturable plan outer t) → Sees plan.code t (first t c.own outer)
