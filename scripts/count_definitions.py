@@ -3,13 +3,15 @@
 
 usage: count_definitions.py [--list]
 
-It follows the imports of `Preserves` and `Covers` through specs/. The table must name each file that it comes to and no other, with about
-as many lines as it has. Prints each difference, and last 'N passed, M failed'; --list prints the files with their lines instead.
+It follows the imports of `Preserves` and `Covers` through specs/, but does not go on into the reader of instructions: what a step
+finds is said by `Stands`, and `found_is_spelled` proves that the reader finds it. The table must name each file that it comes to and no
+other, with about as many lines as it has. Prints each difference, and last 'N passed, M failed'; --list prints the files with their lines instead.
 """
 import os, re, sys
 
 TOP = os.path.dirname(os.path.dirname(os.path.abspath(__file__)))
-HEADS = ["sim_laws/specs/Preserves.antt", "sim_laws/specs/Covers.antt"]
+HEADS = ["sim_laws/specs/Preserves.antt", "sim_laws/specs/Covers.antt", "ia_inst/specs/Stands.antt"]
+READER = "ia_inst/specs/Instructions.antt"
 NEAR = 25
 
 
@@ -33,7 +35,7 @@ def reached():
     found, open_files = {}, list(HEADS)
     while open_files:
         name = open_files.pop()
-        if name in found:
+        if name in found or name == READER:
             continue
         with open(path(name)) as f:
             lines = f.readlines()

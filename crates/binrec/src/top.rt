@@ -11,6 +11,7 @@ ghost use Rattle.top_plan.specs.Steady.{IsSteady};
 ghost use Rattle.word_reader.specs.Words.{Builds, Traces, Runs, Merges, Shows, Sessions, Demos, command, first_name};
 ghost use Rattle.word_reader.specs.Reads.{asked_of};
 ghost use Rattle.top_build.specs.BuildMeaning.{MeansBuild};
+ghost use Rattle.top_build.specs.Spelled.{AreSpelled, AreOnly};
 ghost use Rattle.top_run.specs.RunMeaning.{MeansRun};
 ghost use Rattle.top_run.specs.TraceMeaning.{MeansTrace};
 ghost use Rattle.top_graph.specs.MergeMeaning.{MeansMerge};
@@ -146,7 +147,8 @@ fn answer<F: Shelf, I: Source, O: Sink, R: Sink>(
 /// objects that tell what they hold the answer is the expected one, unless memory is wanting or an object fails; `partial`,
 /// what an interrupted command leaves is a front part of what the whole one does; `cause`, status 3 names an object whose
 /// count rose; `steady`, a fault stands at the call that met it: the counts rise as the status says and no more; `usage`,
-/// `build`, `run`, `trace`, `merge`, `show`, `demo` and `session`, what the statuses mean.
+/// `build`, `run`, `trace`, `merge`, `show`, `demo` and `session`, what the statuses mean; `spelled` and `only`, what a step
+/// finds is what the table of spellings says.
 pub fn binrec<F: Shelf, I: Source, O: Sink, R: Sink>(
     alloc: Global,
     words: &[String],
@@ -206,6 +208,8 @@ pub fn binrec<F: Shelf, I: Source, O: Sink, R: Sink>(
         → MeansSession original
         (world (F.seen shelf.old) (I.seen input.old) (O.seen out.old) (R.seen report.old)) result.0
         (world (F.seen shelf.new) (I.seen input.new) (O.seen out.new) (R.seen report.new)) }
+    ensures spelled { AreSpelled }
+    ensures only { AreOnly }
 {
     plan_law();
     build_law();

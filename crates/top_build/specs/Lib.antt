@@ -1,2 +1,3 @@
 pub mod BuildPlan
 pub mod BuildMeaning
+pub mod Spelled
