@@ -3,14 +3,18 @@
 
 usage: bench.py [--repeat N] [--only WORD] [--reference "PROGRAM WORD.." | --alone] PROGRAM [WORD..]
 
-Each line has the size, the processor time (the least of N runs), the time for one unit of the size, the most memory of the
-process (what is below that of this script, some 15 MiB, is not seen), and the ratios of time and memory to the reference: x0.5 is half of what the
-reference takes, so lower is better. Time for one unit that stays the same down a table is growth
-in proportion to size. The reference is built with cargo from ../shared/oracle where that folder is there.
+Each line has the size, the processor time (the least of N runs, the programs in turn), the time for one unit of the size, the most memory
+of the process (what is below that of this script, some 15 MiB, is not seen), and the ratios of time and memory to the reference: x0.5 is half of
+what the reference takes, so lower is better. Time for one unit that stays the same down a table is growth in proportion to size. A table ends with
+its ratio of times at the largest size beside its bar, and OVER where that is passed; no ratio is told of a time below 10 ms, as the
+reference's is where memory is made and not used. The status is 1 where programs end otherwise than they should.
+The reference is built with cargo from ../shared/oracle where that folder is there, and runs at the stage that this program has (STAGE).
 """
-import argparse, hashlib, os, shlex, shutil, struct, subprocess, sys, tempfile
+import argparse, collections, hashlib, os, shlex, shutil, struct, subprocess, sys, tempfile
 
 TOP = os.path.dirname(os.path.dirname(os.path.abspath(__file__)))
+STAGE = "R13"
+TOO_SHORT = 0.01
 START = 0x08048000
 EXIT = bytes.fromhex("b801000000 bb00000000 cd80")
 
@@ -106,26 +110,32 @@ def second_trace(folder):
 SCRIPTS = {"added": "add T\n", "once": "add T\nemit N\n", "again": "add T\nemit N\nadd T2\nemit N\n"}
 
 
-# What is measured: its name, the unit, the sizes, how a size is made, and the words; what they need is made by the words before.
+# What is measured: its name, the unit, the sizes, how a size is made, the words, and the most time beside the reference's that is
+# wanted at the largest size, where there is a bar. What the words need is made by the words before.
+Table = collections.namedtuple("Table", "title unit sizes make words bar")
 LARGE = ["run", "--steps", "1", "E"]
+PAIRS_OF = [32000, 64000, 256000]  # functions of a trace that is measured by itself
+BLOCKS_OF = [4000, 16000]  # 4 blocks a function, of at most 65536
 TABLES = [
-    ("run, counting loop", "step", [200_000, 500_000, 1_000_000, 2_000_000, 4_000_000], lambda n: counting_loop(n // 2), ["run", "E"]),
-    ("run, memory loop", "step", [120_000, 600_000, 1_200_000, 3_000_000], lambda n: memory_loop(n // 6), ["run", "E"]),
-    ("run, repeated store", "byte", [65536, 262144, 1048576, 4194304], repeated_store, ["run", "E"]),
-    ("run, moves in 64 MiB", "step", [131072, 524288, 2097152], repeated_move, ["run", "E"]),
-    ("run, file read", "byte", [1 << 20, 4 << 20, 16 << 20, 64 << 20], large_file, LARGE),
-    ("run, memory made", "byte", [1 << 20, 4 << 20, 16 << 20, 64 << 20, 192 << 20], large_memory, LARGE),
-    ("build, file", "byte", [1 << 16, 1 << 18, 1 << 20, 4 << 20, 16 << 20], large_file, ["build", "N", "E"]),
-    ("build, memory", "byte", [1 << 20, 4 << 20, 16 << 20, 63 << 20], large_memory, ["build", "N", "E"]),
-    ("trace, functions", "function", [250, 1000, 4000, 16000], many_functions, ["trace", "T", "E"]),
-    ("merge, functions", "function", [250, 1000, 4000, 16000], many_functions, ["merge", "M", "E", "T", "T", "T"]),
-    ("show, functions", "function", [250, 1000, 4000, 16000], many_functions, ["show", "E", "T"]),
-    ("build, functions", "function", [250, 1000, 4000, 16000], many_functions, ["build", "N", "E", "T"]),
-    ("build, held loads", "block", [100, 400, 1600, 6400], held_loads, ["build", "N", "E", "T"]),
-    ("build, backward chain", "block", [1024, 4096, 16384, 65536], backward_chain, ["build", "N", "E", "T"]),
-    ("session, one emit", "function", [250, 1000, 4000, 16000], many_functions, ["session", "E", "<once"]),
-    ("session, a second emit with one edge more", "function", [250, 1000, 4000, 16000], many_functions, ["session", "E", "<again"]),
+    Table("run, counting loop", "step", [500_000, 1_000_000, 2_000_000, 4_000_000], lambda n: counting_loop(n // 2), ["run", "E"], 1.0),
+    Table("run, memory loop", "step", [300_000, 600_000, 1_200_000, 3_000_000], lambda n: memory_loop(n // 6), ["run", "E"], 1.0),
+    Table("run, repeated store", "byte", [524288, 1048576, 4194304], repeated_store, ["run", "E"], 1.0),
+    Table("run, moves in 64 MiB", "step", [524288, 2097152, 8388608], repeated_move, ["run", "E"], 1.5),
+    Table("run, file read", "byte", [16 << 20, 64 << 20], large_file, LARGE, None),
+    Table("run, memory made", "byte", [16 << 20, 64 << 20, 192 << 20], large_memory, LARGE, None),
+    Table("build, file", "byte", [4 << 20, 16 << 20], large_file, ["build", "N", "E"], None),
+    Table("build, memory", "byte", [16 << 20, 63 << 20], large_memory, ["build", "N", "E"], None),
+    Table("trace, functions", "function", PAIRS_OF, many_functions, ["trace", "T", "E"], 1.0),
+    Table("merge, functions", "function", PAIRS_OF, many_functions, ["merge", "M", "E", "T", "T", "T"], 1.0),
+    Table("show, functions", "function", BLOCKS_OF, many_functions, ["show", "E", "T"], 1.0),
+    Table("build, functions", "function", BLOCKS_OF, many_functions, ["build", "N", "E", "T"], 1.0),
+    Table("build, held loads", "block", [400, 1600, 6400], held_loads, ["build", "N", "E", "T"], 1.2),
+    Table("build, backward chain", "block", [16384, 65536], backward_chain, ["build", "N", "E", "T"], 1.0),
+    Table("session, one emit", "function", BLOCKS_OF, many_functions, ["session", "E", "<once"], 1.0),
+    Table("session, a second emit with one edge more", "function", [4000, 16000], many_functions, ["session", "E", "<again"], None),
 ]
+ROUNDS = 5  # of the sessions that a second emit is measured by
+MOST_OF_FIRST = 0.25
 
 
 def reference():
@@ -135,7 +145,7 @@ def reference():
         return None
     target = os.path.join(tempfile.gettempdir(), f"binrec-reference-{os.getuid()}")
     done = subprocess.run(["cargo", "build", "--release", "--offline", "-q", "--target-dir", target], cwd=source)
-    return [os.path.join(target, "release", "oracle")] if done.returncode == 0 else None
+    return [os.path.join(target, "release", "oracle"), "--stage", STAGE] if done.returncode == 0 else None
 
 
 def call(program, words, folder):
@@ -171,9 +181,10 @@ def knows_all_instructions(program, folder):
     return call(program, ["run", "E"], folder)[3].startswith("exit 0 steps 4 ")
 
 
-def measured(program, words, folder, repeat):
-    runs = [call(program, words, folder) for _ in range(repeat)]
-    return min(r[0] for r in runs), max(r[1] for r in runs), runs[0][2], runs[0][3]
+def measured(calls, repeat):
+    """For each (program, words, folder) the least time of so many calls, made in turn, the most memory, the status and the last line."""
+    rounds = [[call(*each) for each in calls] for _ in range(repeat)]
+    return [(min(r[0] for r in runs), max(r[1] for r in runs), *runs[0][2:]) for runs in zip(*rounds)]
 
 
 def write_file(names, make, size):
@@ -190,42 +201,44 @@ def write_file(names, make, size):
 
 
 def compare(unit, size, sides, words, repeat):
-    """One line of a table; answers whether all sides ended alike."""
-    found = [measured(program, words, folder, repeat) for program, folder in sides]
+    """One line of a table; answers whether all sides ended alike, and the ratio of times, or None."""
+    found = measured([(program, words, folder) for program, folder in sides], repeat)
     seconds, memory, status, last = found[0]
     line = f"  {size:>10} {seconds:9.3f} s {seconds / size * 1e9:12.1f} ns/{unit} {memory / 2**20:8.1f} MiB"
+    ratio = seconds / found[1][0] if len(found) > 1 and found[1][0] >= TOO_SHORT else None
     if len(found) > 1:
-        ratio = f"x{seconds / found[1][0]:.2f}" if found[1][0] >= 0.01 else "(too short)"
-        line += f"   time {ratio} memory x{memory / found[1][1]:.2f}"
+        line += f"   time {f'x{ratio:.2f}' if ratio else '(too short)'} memory x{memory / found[1][1]:.2f}"
     alike = all(f[2:] == found[0][2:] for f in found) or words[0] in ("trace", "build") and all(f[2] == status for f in found)
     if status not in (0, 6) or not alike:
         line += f"   ENDED WITH {' / '.join(f'{f[2]} {f[3]}' for f in found)}"
     print(line, flush=True)
-    return alike and status in (0, 6)
+    return alike and status in (0, 6), ratio
 
 
-def second_emit(program, words, folder, repeat):
-    """How the time of the second emit, with its trace, stands to that of the first: at most a quarter is wanted."""
-    added, once, again = (measured(program, [*words[:-1], script], folder, max(repeat, 5))[0] for script in ("<added", "<once", "<again"))
+def second_emit(program, words, folder):
+    """How the time of the second emit, with its trace, stands to that of the first."""
+    calls = [(program, [*words[:-1], script], folder) for script in ("<added", "<once", "<again")]
+    added, once, again = (found[0] for found in measured(calls, ROUNDS))
     share = (again - once) / (once - added)
-    print(f"  {'':>10} the second emit takes x{share:.2f} of the first" + ("" if share <= 0.25 else "   OVER A QUARTER"), flush=True)
-    return share <= 0.25
+    print(f"  {'':>10} the second emit takes x{share:.2f} of the first" + ("" if share <= MOST_OF_FIRST else f"   OVER {MOST_OF_FIRST}"), flush=True)
 
 
 def table(entry, sides, repeat):
-    title, unit, sizes, make, words = entry
-    print(f"{title}: {' '.join(words)}")
-    good = True
-    for size in sizes:
-        write_file([os.path.join(folder, "E") for _, folder in sides], make, size)
+    print(f"{entry.title}: {' '.join(entry.words)}")
+    good, ratio, again = True, None, entry.words[-1] == "<again"
+    for size in entry.sizes:
+        write_file([os.path.join(folder, "E") for _, folder in sides], entry.make, size)
         for program, folder in sides:
-            if "T" in words and words[0] != "trace" or words[0] == "session":
+            if "T" in entry.words and entry.words[0] != "trace" or entry.words[0] == "session":
                 call(program, ["trace", "T", "E"], folder)
-            if words[-1] == "<again":
+            if again:
                 second_trace(folder)
-        good = compare(unit, size, sides, words, repeat) and good
-        if words[-1] == "<again":
-            good = second_emit(sides[0][0], words, sides[0][1], repeat) and good
+        alike, ratio = compare(entry.unit, size, sides, entry.words, repeat)
+        good = good and alike
+        if again:
+            second_emit(sides[0][0], entry.words, sides[0][1])
+    if ratio and entry.bar:
+        print(f"  {'':>10} x{ratio:.2f} at the largest size, bar x{entry.bar:.1f}" + ("" if ratio <= entry.bar else "   OVER"), flush=True)
     return good
 
 
@@ -249,13 +262,13 @@ def main():
         for _, folder in sides:
             os.mkdir(folder)
         for entry in TABLES:
-            words = entry[4]
-            if a.only not in entry[0]:
+            words = entry.words
+            if a.only not in entry.title:
                 continue
             if not all(takes(program, words, folder) for program, folder in sides):
-                print(f"skipped: {entry[0]}: no such command yet")
+                print(f"skipped: {entry.title}: no such command yet")
             elif words[0] != "build" and not knows_all_instructions(*sides[0]) and words != LARGE:
-                print(f"skipped: {entry[0]}: the program does not know the whole instruction table yet")
+                print(f"skipped: {entry.title}: the program does not know the whole instruction table yet")
             else:
                 good = table(entry, sides, a.repeat) and good
     return 0 if good else 1
