@@ -1,6 +1,5 @@
 -- For the crates above:
 pub mod Capture
-
 mod Checked
 mod Named
 mod Placing

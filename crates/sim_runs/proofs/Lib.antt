@@ -6,7 +6,6 @@ pub mod Same
 pub mod Moves
 pub mod Indirect
 pub mod Pass
-
 mod Forward
 mod Whole
 mod Image
