@@ -1,6 +1,7 @@
 """A front of the recompiler for daily use, which the script br starts.
 
 usage: br [--force] [--where] COMMAND WORD..      as the command of the program
+       br record [--merge | --replace] T E WORD.. runs E for real and stores its trace (br record --help)
        br --help | --version
 
 Words and streams go to the program unchanged, and br ends with its status. Before that it refuses, with status 8, to replace a file
@@ -228,6 +229,9 @@ def main():
         print(__doc__.strip(), *causes.USAGE.values(), sep="\n")
         return 0
     chosen = options(words)
+    if words[:1] == ["record"]:
+        import recording
+        return recording.main(words[1:], "--force" in chosen)
     program = executables.program()
     if not program:
         say("no program: build it (README.md), or set BINREC to it")
