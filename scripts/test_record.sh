@@ -28,8 +28,10 @@ same() { if cmp -s "$2" "$3"; then pass; else fail "$1: $2 and $3 differ"; fi; }
 cp "$programs/bin/hash" E
 # A PATH with python3 and what br needs, and no qemu.
 mkdir few
-for needed in python3 dirname realpath env; do ln -s "$(command -v $needed)" few/; done
-PATH=$folder/few told 'no qemu' 9 '^br: no qemu-i386: install it' record T E
+for needed in dirname realpath; do ln -s "$(command -v $needed)" few/; done
+ln -s "$(python3 -c 'import sys; print(sys.executable)')" few/python3
+env PATH="$folder/few" /bin/sh "$br" record T E > got.out 2> got.err < /dev/null
+judge 'no qemu' 9 '^br: no qemu-i386: install it' $? got.err
 [ ! -e T ] || fail 'no qemu: a trace was stored'
 told 'no executable' 1 '^br: record takes a trace to write and an executable$' record T
 told 'help' 0 '' record --help
@@ -214,14 +216,17 @@ executable W 'ebfe'
 chmod +x W
 for sent in TERM INT HUP; do
     rm -f T
-    "$br" record T W > got.out 2> got.err < /dev/null &
-    for ((k = 0; k < 100; k++)); do
-        child=$(pgrep -P $! -f "$qemu" | head -n 1)
+    # What a shell starts in the background does not hear SIGINT.
+    timeout 60 python3 -c 'import os, signal, sys; signal.signal(signal.SIGINT, signal.SIG_DFL); os.execv(sys.argv[1], sys.argv[1:])' \
+        "$br" record T W > got.out 2> got.err < /dev/null &
+    for ((k = 0; k < 200; k++)); do
+        front=$(pgrep -P $! | head -n 1)
+        child=$([ -z "$front" ] || pgrep -P "$front" -f "$qemu" | head -n 1)
         [ -z "$child" ] || break
         sleep 0.05
     done
     sleep 0.5
-    kill "-$sent" $!
+    kill "-$sent" "$front"
     wait $!
     judge "SIG$sent" 0 "recorded 2 signal SIG$sent" $? got.err
     same "SIG$sent: the loop is there" <(bytes "4252545241434531 $(sha256sum W | cut -c1-64) 02000000 00000000 54800408 54800408 54800408") T
