@@ -15,6 +15,8 @@ folder=$(mktemp -d) && cp "$here"/*.c "$here"/*.txt "$folder" && cd "$folder" ||
 trap 'rm -rf "$folder"' EXIT
 find_native "$top/programs/bin/hash"
 [ "$native_kind" = processor ] || skip 'what the machine runs by itself: it runs no 32-bit executable'
+records=yes
+command -v qemu-i386 > /dev/null || { skip 'record: no qemu-i386'; records=no; }
 told=()
 
 # COMMAND PATTERN..: the command ends with status 0, and each pattern matches a whole line of what it writes.
@@ -25,6 +27,7 @@ does() {
     printf '$ %s\n' "$command"
     # A file of this machine's own needs a machine that runs it.
     if [[ $command == ./* && $native_kind != processor ]]; then return; fi
+    if [[ $command == *R2* && $records = no ]]; then return; fi
     eval "$command" > "$folder/.said" 2>&1 < /dev/null
     status=$?
     cat "$folder/.said"
@@ -39,6 +42,8 @@ does 'cc32 -o count count.c' 'accepted: count is an original, .*' "none of its $
 does 'br run count < one.txt' '2 12 75' "exit 0 steps $number undefined 0"
 does 'br trace T1 count < one.txt' '2 12 75' "exit 0 steps $number undefined 0 edges $number"
 does 'br trace T2 count o < two.txt' 1 "exit 0 steps $number undefined 0 edges $number"
+does 'br record R2 count o < two.txt' 1 "recorded $number exit 0"
+does 'cmp R2 T2'
 does 'br merge T count T1 T2' "merged $number"
 does 'br show count T | head -n 4' 'block 080[0-9a-f]{5}'
 does 'coverage count T | tail -n 1' "seen $number of $number instructions \\([0-9.]+ percent\\), $number blocks, $number ways to the original"

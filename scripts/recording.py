@@ -228,8 +228,11 @@ def run(qemu, name, words, edges):
     # qemu opens the log once more, under the first descriptor that is free.
     edges.descriptors = {writer, first_free(inherited())}
     mask = signal.pthread_sigmask(signal.SIG_BLOCK, SIGNALS)
-    child = subprocess.Popen([*qemu, "-d", "exec,nochain,strace", "-D", f"/dev/fd/{writer}", path, *words], close_fds=False,
-                             preexec_fn=lambda: before_start(mask))
+    try:
+        child = subprocess.Popen([*qemu, "-d", "exec,nochain,strace", "-D", f"/dev/fd/{writer}", path, *words], close_fds=False,
+                                 preexec_fn=lambda: before_start(mask))
+    except OSError as e:
+        raise Trouble(NO_QEMU, f"{qemu[0]} cannot be started: {e.strerror}") from e
     os.close(writer)
     follow(child, reader, writer, edges)
     edges.end()
@@ -300,6 +303,29 @@ def recorded(program, qemu, words, data, target, joined):
     return f"recorded {count} {ending(status)}"
 
 
+def record(words, chosen):
+    """Records a run; the line of the report."""
+    if len(words) < 2 or not all(words[:2]):
+        raise Trouble(USAGE, "record takes a trace to write and an executable", "usage: record [--merge | --replace] T E WORD..")
+    program = executables.program()
+    if not program:
+        raise Trouble(NO_PROGRAM, "no program: build it (README.md), or set BINREC to it")
+    target, name = words[:2]
+    data = original(program, name)
+    joined = guard(program, chosen, target, name, data)
+    return recorded(program, emulator(), words[1:], data, target, joined)
+
+
+def report(line):
+    """Prints the report; the status."""
+    try:
+        sys.stderr.write(line + "\n")
+        sys.stderr.flush()
+    except (OSError, AttributeError):
+        return FILE
+    return 0
+
+
 def main(words, force=False):
     """The command behind the word `record`."""
     if words[:1] in (["--help"], ["-h"]):
@@ -309,18 +335,10 @@ def main(words, force=False):
     while words and words[0] in ("--merge", "--replace"):
         chosen = words.pop(0)
     try:
-        if len(words) < 2 or not all(words[:2]):
-            raise Trouble(USAGE, "record takes a trace to write and an executable", "usage: record [--merge | --replace] T E WORD..")
-        program = executables.program()
-        if not program:
-            raise Trouble(NO_PROGRAM, "no program: build it (README.md), or set BINREC to it")
-        target, name = words[:2]
-        data = original(program, name)
-        joined = guard(program, chosen, target, name, data)
-        line = recorded(program, emulator(), words[1:], data, target, joined)
+        return report(record(words, chosen))
     except Trouble as trouble:
         for text in trouble.lines:
             say(text)
         return trouble.status
-    sys.stderr.write(line + "\n")
-    return 0
+    except KeyboardInterrupt:
+        return 128 + signal.SIGINT
