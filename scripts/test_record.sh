@@ -232,14 +232,64 @@ for sent in TERM INT HUP; do
     same "SIG$sent: the loop is there" <(bytes "4252545241434531 $(sha256sum W | cut -c1-64) 02000000 00000000 54800408 54800408 54800408") T
     [ -z "$child" ] || ! kill -0 "$child" 2> /dev/null || fail "SIG$sent: the run goes on"
 done
-# Signals are asked for: mov eax, 48 (signal); mov ebx, 10; mov ecx, HANDLER; int 80.
-executable W "b830000000 bb0a000000 b954800408 cd80 $end"
+# A handler of SIGALRM, which exits with 3, comes in `jmp eax` to itself: it is not where that jump goes.
+executable W 'b8ae000000 bb0e000000 b98b800408 31d2 be08000000 cd80 b81b000000 bb01000000 cd80 b87d800408 ffe0
+    b801000000 bb03000000 cd80 7f800408 00000000 00000000 00000000 00000000'
 chmod +x W
 rm -f T
-told 'handlers of signals' 0 '^br: W: it asks for handlers of signals' record T W
+told 'a handler of a signal' 0 '^br: W: it asks for handlers of signals \(rt_sigaction\)' record T W
+judge 'a handler of a signal: its end' 0 '^recorded 2 exit 3$' 0 got.err
+pairs() { od -An -v -tx4 -w8 --endian=little -j44 "$1"; }
+if [ "$(pairs T)" = ' 00000000 08048054
+ 0804807d 0804807d' ]; then pass; else fail "a handler of a signal: $(pairs T)"; fi
+# A thread, by clone, that loops, calls and ends while the first one loops: each has its own pairs.
+executable W 'b878000000 bb000f0500 8d8c2400c0ffff cd80 85c0 7411 b9400d0300 49 75fd b8fc000000 31db cd80
+    b9e8030000 49 75fd e809000000 b801000000 31db cd80 c3'
+chmod +x W
+rm -f T
+told 'a thread' 0 '^br: W: it makes threads, or processes in the same memory' record T W
+judge 'a thread: its end' 0 '^recorded 9 exit 0$' 0 got.err
+if pairs T | grep -q '08048092 08048089'; then pass; else fail "a thread: $(pairs T)"; fi
 # fork: mov eax, 2; int 80.
 executable W "b802000000 cd80 $end"
 chmod +x W
 rm -f T
 told 'processes' 0 '^br: W: it makes processes' record T W
+
+# ---- Limits, and parts of the way that fail ----
+
+# The same with a limit of 3 pairs: E runs to its end, and nothing is stored.
+cp "$programs/bin/hash" E
+rm -f T
+PYTHONPATH=$here python3 -c 'import sys, recording; recording.MOST = 3; sys.exit(recording.main(sys.argv[1:]))' T E < first > got.out 2> got.err
+judge 'too many pairs' 7 '^br: the run has more than 3 pairs' $? got.err
+same 'too many pairs: the output' got.out <(./E < first 2> /dev/null || $qemu ./E < first)
+[ ! -e T ] || fail 'too many pairs: a trace was stored'
+# A `merge` that fails leaves the trace as it was, and the pairs of the run beside it.
+cp one T
+printf '#!/bin/sh\n[ "$1" != merge ] || { echo "limit union 2000000" >&2; exit 7; }\nexec %s "$@"\n' "$BINREC" > failing
+chmod +x failing
+BINREC=$folder/failing input=first told 'a merge that fails' 7 '^br: the pairs of this run alone are in .*/T.part-[0-9]+$' record --merge T E
+same 'a merge that fails' one T
+same 'a merge that fails: the pairs of the run' two "$(ls T.part-*)"
+# A log that is none, and an emulator that is none.
+mkdir other
+printf '#!/bin/sh\necho no emulator\n' > other/qemu-i386
+chmod +x other/qemu-i386
+rm -f T
+PATH=$folder/other:$PATH told 'nothing is logged' 9 'logged nothing; no trace was stored$' record T E
+[ ! -e T ] || fail 'nothing is logged: a trace was stored'
+# Standard error that takes nothing: the trace is stored, and the status tells that the report is lost.
+"$br" record T E > got.out 2> /dev/full < /dev/null
+judge 'no report' 3 '' $? /dev/null
+same 'no report' one T
+# No room for the trace: told, and nothing is left.
+(ulimit -f 0; "$br" record no-room E 2>&1 < /dev/null; echo "status $?") | cat > got.out
+judge 'no room' 0 'cannot be stored: File too large$' 0 got.out
+judge 'no room: the status' 0 '^status 3$' 0 got.out
+[ -z "$(ls | grep no-room)" ] || fail "no room: $(ls | grep no-room) was left"
+
+# ---- The decoder of transfers ----
+
+if "$here/check_transfers.py" --seed "$(date +%Y%m%d)" "${tool[0]}" > got.out; then pass; else fail "transfers: $(cat got.out)"; fi
 finish
