@@ -13,6 +13,7 @@ mod words;
 
 use arguments::{read_arguments, tell_broken};
 use br_real::{ErrorSink, FileShelf, InputSource, OutputSink};
+use std::process;
 use std::process::ExitCode;
 use top::binrec;
 use top_plan::tell;
@@ -30,7 +31,7 @@ fn main(rt: HostRuntime) -> ExitCode {
     if let Some(position) = arguments.broken {
         return ExitCode::from(tell_broken(&mut report, &arguments.texts, position).0);
     }
-    let mut shelf = FileShelf::new(alloc, &rt);
+    let mut shelf = FileShelf::new(alloc, &rt, process::id(rt.process()));
     let mut input = InputSource::new(rt.stdin());
     let mut out = OutputSink::new(rt.stdout());
     let status = binrec(

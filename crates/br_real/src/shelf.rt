@@ -15,17 +15,20 @@ use std::rt::Files;
 pub struct FileShelf<'a, R> {
     alloc: Global,
     files: &'a R,
+    process: u32,
     faults: u64,
 }
 
 impl<'a, R: Files> FileShelf<'a, R> {
-    /// A shelf with the count 0. What a store needs is taken from `alloc`.
-    pub fn new(alloc: Global, files: &'a R) -> FileShelf<'a, R>
+    /// A shelf with the count 0. What a store needs is taken from `alloc`; `process` is the number of the process, which the
+    /// names of parts have.
+    pub fn new(alloc: Global, files: &'a R, process: u32) -> FileShelf<'a, R>
         ensures { ⟦<FileShelf<'a, R> as Shelf>⟧.seen result ≡ record { files = None; faults = 0; calm = false } }
     {
         FileShelf {
             alloc,
             files,
+            process,
             faults: 0,
         }
     }
@@ -46,16 +49,18 @@ impl<'a, R: Files> Shelf for FileShelf<'a, R> {
         answer
     }
 
-    /// The bytes go to a new file beside the name, `NAME.part`, or `NAME.part1` up to `NAME.part9` where that is taken. It
-    /// then gets the name, so that a store that fails, also on a full disk, leaves the old content. It has the
-    /// permissions that the name had, the nine bits of them, unless the owner changes, who is the caller.
+    /// The bytes go to a new file beside the name, its part: `NAME.part-PROCESS-K` with the number of the process and the first
+    /// K from 0 to 99 that is free. It then gets the name, so that a store that fails, also on a full disk, leaves the old
+    /// content. It has the permissions that the name had, the nine bits of them, unless the owner changes, who is the caller.
+    /// A store fails as well where each of these names is taken.
     ///
     /// The bytes are written in place where the name is a link, a device or the like, and where the folder or the
-    /// file system refuses a new file, its permissions or the new name. A store in place that fails may leave a front part of them.
+    /// file system does not allow a part, its permissions or the new name (`is_refusal`). A store in place that fails may
+    /// leave a front part of them.
     fn store(&mut self, name: &str, bytes: &[u8]) -> Result<(), StoreError> {
         // A field that the body reads is known to be in the range of its type.
         let _faults = self.faults;
-        if write_file(self.alloc, self.files, name, bytes)? {
+        if write_file(self.alloc, self.files, self.process, name, bytes)? {
             return Ok(());
         }
         self.faults = self.faults.saturating_add(1);
@@ -63,11 +68,9 @@ impl<'a, R: Files> Shelf for FileShelf<'a, R> {
     }
 }
 
-/// What a new file beside a name has behind the name, in the order in which they are tried.
-const SUFFIXES: [&str; 10] = [
-    ".part", ".part1", ".part2", ".part3", ".part4", ".part5", ".part6", ".part7", ".part8",
-    ".part9",
-];
+/// How many names of parts are tried. A process leaves one behind only where it was killed, and a later process has its number
+/// only by chance.
+const PARTS: u32 = 100;
 
 /// How a way to store ended.
 #[derive(Clone, Copy, PartialEq, Eq)]
@@ -78,10 +81,34 @@ enum Ending {
     Refused,
 }
 
+/// What became of the search for a part.
+enum Part<F> {
+    /// A new file, and its name.
+    Made(String, F),
+    /// Each name was taken, or the system failed.
+    Failed,
+    /// The folder or the file system does not allow it.
+    Refused,
+}
+
+/// Whether an error is the answer of a folder or a file system that does not allow the call, which another way may do without.
+/// Any other error, as of a full disk, speaks against each way.
+fn is_refusal(kind: ErrorKind) -> bool {
+    matches!(
+        kind,
+        ErrorKind::PermissionDenied
+            | ErrorKind::ReadOnlyFilesystem
+            | ErrorKind::InvalidFilename
+            | ErrorKind::ResourceBusy
+            | ErrorKind::Unsupported
+    )
+}
+
 /// Makes the bytes the content of a file, and says whether that succeeded.
 fn write_file<R: Files>(
     alloc: Global,
     files: &R,
+    process: u32,
     name: &str,
     bytes: &[u8],
 ) -> Result<bool, AllocError> {
@@ -90,9 +117,10 @@ fn write_file<R: Files>(
         Ok(_) => return Ok(write_in_place(files, name, bytes)),
         Err(_) => None,
     };
-    let ending = match new_part(alloc, files, name)? {
-        Some((part, file)) => replace(files, name, &part, file, old.as_ref(), bytes),
-        None => Ending::Refused,
+    let ending = match new_part(alloc, files, process, name)? {
+        Part::Made(part, file) => replace(files, name, &part, file, old.as_ref(), bytes),
+        Part::Failed => Ending::Failed,
+        Part::Refused => Ending::Refused,
     };
     Ok(match ending {
         Ending::Written => true,
@@ -101,22 +129,23 @@ fn write_file<R: Files>(
     })
 }
 
-/// A new file beside the name, and its name; none where the system does not make one.
+/// A file beside the name that nobody else made.
 fn new_part<R: Files>(
     alloc: Global,
     files: &R,
+    process: u32,
     name: &str,
-) -> Result<Option<(String, R::File)>, AllocError> {
-    for suffix in SUFFIXES {
-        let mut part = String::from_str(alloc, name)?;
-        part.push_str(suffix)?;
+) -> Result<Part<R::File>, AllocError> {
+    for k in 0..PARTS {
+        let part = format!(in alloc; "{name}.part-{process}-{k}")?;
         match File::create_new(files, part.as_str()) {
-            Ok(file) => return Ok(Some((part, file))),
+            Ok(file) => return Ok(Part::Made(part, file)),
             Err(error) if error.kind() == ErrorKind::AlreadyExists => {}
-            Err(_) => return Ok(None),
+            Err(error) if is_refusal(error.kind()) => return Ok(Part::Refused),
+            Err(_) => return Ok(Part::Failed),
         }
     }
-    Ok(None)
+    Ok(Part::Failed)
 }
 
 /// Writes the bytes to the new file `part` and gives it the name. Where that does not come to its end, `part` is removed.
@@ -132,13 +161,22 @@ fn replace<R: Files>(
     if keep_permissions(&file, old) {
         ending = write_through(file, bytes);
     }
-    if ending == Ending::Written && fs::rename(files, part, name).is_err() {
-        ending = Ending::Refused;
+    if ending == Ending::Written {
+        ending = rename(files, part, name);
     }
     if ending != Ending::Written {
         let _left = fs::remove_file(files, part);
     }
     ending
+}
+
+/// Gives the part its name.
+fn rename<R: Files>(files: &R, part: &str, name: &str) -> Ending {
+    match fs::rename(files, part, name) {
+        Ok(()) => Ending::Written,
+        Err(error) if is_refusal(error.kind()) => Ending::Refused,
+        Err(_) => Ending::Failed,
+    }
 }
 
 /// Writes the bytes to the device itself, where the file lies on one.
@@ -182,7 +220,7 @@ mod tests {
     #[test]
     fn keeps_real_files(rt: HostRuntime) -> Result<(), StoreError> {
         let alloc = rt.alloc();
-        let mut shelf = FileShelf::new(alloc, &rt);
+        let mut shelf = FileShelf::new(alloc, &rt, 7);
         let name = "kept_by_br_real";
         assert_eq!(rt; shelf.store(name, b"old"), Ok(()));
         let long = vec![in alloc; 5u8; 10000].map_err(|_| StoreError::Memory)?;
@@ -195,7 +233,7 @@ mod tests {
         // No part of a store is left under another name, and a file that is not there is a fault.
         assert!(rt;
             matches!(
-                shelf.fetch(alloc, "kept_by_br_real.part", 9),
+                shelf.fetch(alloc, "kept_by_br_real.part-7-0", 9),
                 Err(ShelfError::Failed)
             )
         );
@@ -219,15 +257,15 @@ mod tests {
 
     #[test]
     fn stores_beside_parts_that_were_left(rt: HostRuntime) -> std::io::Result<()> {
-        let mut shelf = FileShelf::new(rt.alloc(), &rt);
+        let mut shelf = FileShelf::new(rt.alloc(), &rt, 7);
         let name = "beside_by_br_real";
-        fs::write(&rt, "beside_by_br_real.part", "left")?;
+        fs::write(&rt, "beside_by_br_real.part-7-0", "left")?;
         fs::write(&rt, name, "old")?;
         fs::set_permissions(&rt, name, Permissions::from_mode(0o4641))?;
         assert_eq!(rt; shelf.store(name, b"new"), Ok(()));
         assert!(rt; holds(&rt, name, "new"));
-        assert!(rt; holds(&rt, "beside_by_br_real.part", "left"));
-        assert!(rt; fs::symlink_metadata(&rt, "beside_by_br_real.part1").is_err());
+        assert!(rt; holds(&rt, "beside_by_br_real.part-7-0", "left"));
+        assert!(rt; fs::symlink_metadata(&rt, "beside_by_br_real.part-7-1").is_err());
         assert_eq!(rt; fs::metadata(&rt, name)?.mode() & 0o7777, 0o641);
 
         // A link stays a link, and the file that it leads to is written in place.
@@ -238,7 +276,33 @@ mod tests {
         assert!(rt; holds(&rt, name, "by link"));
         assert_eq!(rt; shelf.faults, 0);
         fs::remove_file(&rt, link)?;
-        fs::remove_file(&rt, "beside_by_br_real.part")?;
+        fs::remove_file(&rt, "beside_by_br_real.part-7-0")?;
+        fs::remove_file(&rt, name)
+    }
+
+    #[test]
+    fn fails_where_each_part_is_taken(rt: HostRuntime) -> std::io::Result<()> {
+        let mut shelf = FileShelf::new(rt.alloc(), &rt, 7);
+        let name = "taken_by_br_real";
+        fs::write(&rt, name, "old")?;
+        for k in 0..100u32 {
+            fs::write(
+                &rt,
+                format!(in rt.alloc(); "{name}.part-7-{k}")?.as_str(),
+                "left",
+            )?;
+        }
+        assert_eq!(rt; shelf.store(name, b"new"), Err(StoreError::Failed));
+        assert!(rt; holds(&rt, name, "old"));
+        assert_eq!(rt; shelf.faults, 1);
+
+        // The last name is as good as the first.
+        fs::remove_file(&rt, "taken_by_br_real.part-7-99")?;
+        assert_eq!(rt; shelf.store(name, b"new"), Ok(()));
+        assert!(rt; holds(&rt, name, "new"));
+        for k in 0..99u32 {
+            fs::remove_file(&rt, format!(in rt.alloc(); "{name}.part-7-{k}")?.as_str())?;
+        }
         fs::remove_file(&rt, name)
     }
 }
