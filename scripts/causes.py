@@ -71,18 +71,16 @@ def names_of(words, *roles):
     return [words[at] for at, role in positions(words).items() if role in roles]
 
 
-def lines_of(script):
-    """The lines of a session's script, which is a file, or None where it is not at hand."""
-    if script is None:
-        return []
-    script.seek(0)
-    return [line.rstrip(b"\n") for line in script]
+def named_by(line, *commands):
+    """The name behind one of these words in a line of a script, or None."""
+    command, space, name = line.partition(b" ")
+    return os.fsdecode(name) if space and command.decode(errors="replace") in commands else None
 
 
-def names_in(script, word):
-    """The names behind a word of the script: `add` or `emit`."""
-    before = word.encode() + b" "
-    return [os.fsdecode(line[len(before):]) for line in lines_of(script) if line.startswith(before)]
+def names_in(script, command):
+    """The names behind a word of the script, `add` or `emit`; none where the script is not at hand."""
+    found = (named_by(line, command) for line in (script.lines if script else []))
+    return [name for name in found if name is not None]
 
 
 # ---- Usage ----
@@ -155,29 +153,28 @@ def explain_refusal(words, report):
 def explain_line(script, report):
     """What a refused line of a session's script asked, as far as the script is at hand."""
     _, _, at, number, place = report.split()
-    lines = lines_of(script)[int(at) - 1:int(at)]
-    asked = os.fsdecode(lines[0][:80]) if lines else "(not at hand)"
-    name = asked[4:] if asked.startswith("add ") and int(number) < 31 else f"line {at}"
-    return [f"line {at}: {asked}", *refusal_lines(name, int(number), place)]
+    line = script.lines[int(at) - 1] if script and int(at) <= len(script.lines) else b""
+    name = named_by(line, "add") if int(number) < 31 else None
+    shown = f"line {at}" if name is None else repr(name)
+    return refusal_lines(name, int(number), place, shown)
 
 
-def refusal_lines(name, number, place):
-    """The cause and the cure of a refusal of this number, of a file or a line."""
+def refusal_lines(name, number, place, shown=None):
+    """The cause and the cure of a refusal of this number, of a file, or of a line that is shown otherwise."""
     cause, cure = REFUSALS.get(number, ("it is refused", "docs/USING.md has the numbers"))
-    try:
-        more = finer(number, int(place), executables.read(name)) if number < 31 else None
-    except (OSError, ValueError):
-        more = None
-    return [f"{name}: {cause}{': ' + more if more else ''} (number {number}, at {place})", f"cure: {cure}"]
+    data = executables.content(name) if name is not None else None
+    more = finer(number, int(place), data) if data is not None else None
+    return [f"{shown or name}: {cause}{': ' + more if more else ''} (number {number}, at {place})", f"cure: {cure}"]
 
 
 # ---- Files and streams that fail ----
 
-def store_trouble(name):
-    """Why a name cannot be stored under, or None."""
+def store_trouble(name, shown=None):
+    """Why a name cannot be stored under, or None. It may be shown otherwise."""
     folder = os.path.dirname(name) or "."
+    shown = shown or name
     if os.path.isdir(name):
-        return f"{name} is a folder"
+        return f"{shown} is a folder"
     if not os.path.isdir(folder):
         return f"there is no folder {folder}"
     try:
@@ -186,28 +183,71 @@ def store_trouble(name):
         return f"{folder}: {e.strerror}"
     if system.f_flag & os.ST_RDONLY:
         return f"{folder} lies on a file system that is read-only"
-    if system.f_bavail == 0 or system.f_files and system.f_favail == 0:
+    if system.f_blocks == 0 and os.path.realpath(folder).startswith(("/proc", "/sys")):
+        return f"{folder} is made by the kernel, and takes no new files"
+    if system.f_blocks and system.f_bavail == 0 or system.f_files and system.f_favail == 0:
         return f"the file system of {folder} is full (df {folder})"
     if os.path.exists(name) and not os.access(name, os.W_OK):
-        return f"{name} may not be written by this user (ls -l {name})"
+        return f"{shown} may not be written by this user (ls -l {shown})"
     if not os.path.exists(name) and not os.access(folder, os.W_OK | os.X_OK):
         return f"{folder} may not be written by this user (ls -ld {folder})"
     if len(os.path.basename(name).encode(errors="replace")) > 255:
         return f"the last part of {name[:40]}.. has more than 255 bytes"
     most, _ = resource.getrlimit(resource.RLIMIT_FSIZE)
     if most != resource.RLIM_INFINITY:
-        return f"a file may have at most {most} bytes here (ulimit -f), and {name} would have more"
+        return f"a file may have at most {most} bytes here (ulimit -f), and {shown} would have more"
     return None
 
 
+def told(troubles, names):
+    """The troubles that were found, or that none was."""
+    return [t for t in troubles if t] or [f"a file failed: {', '.join(names)}; nothing shows why now (a device, a disk that was full, a share that was away?)"]
+
+
 def explain_shelf(words, script):
-    read = names_of(words, "original", "guest", "trace") + names_in(script, "add")
-    stored = names_of(words, "stored") + names_in(script, "emit")
-    troubles = [executables.file_trouble(name) for name in read] + [store_trouble(name) for name in stored]
-    found = [trouble for trouble in troubles if trouble]
-    if found:
-        return found
-    return [f"a file failed: {', '.join(read + stored)}; none of them shows why now (a device, a disk that was full, a share that was away?)"]
+    if words[0] == "session":
+        return explain_session_shelf(words, script)
+    read, stored = names_of(words, "original", "guest", "trace"), names_of(words, "stored")
+    return told([executables.file_trouble(name) for name in read] + [store_trouble(name) for name in stored], read + stored)
+
+
+def explain_session_shelf(words, script):
+    """The file that failed is that of the line which ended the session, or the executable where no line was reached."""
+    original = names_of(words, "original")
+    line = ended_by(script)
+    if line is None:
+        return told(map(executables.file_trouble, original), original)
+    read, stored = named_by(line, "add"), named_by(line, "emit")
+    if read is not None:
+        return told([executables.file_trouble(read, repr(read))], [repr(read)])
+    return told([store_trouble(stored, repr(stored))], [repr(stored)]) if stored is not None else []
+
+
+# ---- The line that ended a session ----
+
+def ended_by(script):
+    """The last line that the program came to, or None."""
+    reached = script.reached() if script else 0
+    return script.lines[reached - 1] if reached else None
+
+
+def line_that_ended(script, report):
+    """The number and the text of the line at which a session ended."""
+    refused = re.fullmatch(r"refused line (\d+) \d+ \d+", report)
+    number = int(refused[1]) if refused else script.reached() if script else 0
+    if not script or not 0 < number <= len(script.lines):
+        return [f"line {number}: (not at hand)"] if refused else []
+    text = os.fsdecode(script.lines[number - 1])
+    shown = repr(text[:80]) + (".." if len(text) > 80 else "")
+    return [f"the session ended at line {number}: {shown}; files that lines before it stored stay"]
+
+
+def carriage_returns(script):
+    """What a CR at the end of a line does, where a line that was reached has one."""
+    for at, line in enumerate(script.lines[:script.reached()] if script else []):
+        if line.endswith(b"\r"):
+            return [f"line {at + 1} ends with CR LF, as lines of Windows do: the CR belongs to the line, and so to its name; `tr -d '\\r'` takes it away"]
+    return []
 
 
 def descriptor_trouble(descriptor):
@@ -268,9 +308,8 @@ def instruction_at(address, data):
 def explain_fault(words, report):
     parts = report.split()
     kind, address = parts[1], int(parts[2], 16)
-    try:
-        data = executables.read(names_of(words, "guest", "original")[0])
-    except OSError:
+    data = executables.content(names_of(words, "guest", "original")[0])
+    if data is None or not executables.is_elf(data):
         return []
     if kind == "access":
         return [f"an access at {address:08x}, {region_of(address, data)}", "`br --where` with the same words says which instruction it was"]
@@ -286,13 +325,20 @@ def undefined(words, report):
     """Of a file that BinRec wrote no word: its recovered code keeps flags that are undefined, and uses none."""
     found = re.search(r" undefined ([1-9]\d*)", report)
     name = (names_of(words, "guest", "original") or [""])[0]
-    if not found or os.path.isfile(name) and executables.is_recompiled(executables.read(name)):
+    if not found or executables.is_recompiled(executables.content(name) or b""):
         return []
     return [f"{found[1]} steps read a flag that an instruction left undefined: the run is not well defined, and nothing is promised for it"]
 
 
 def explain(words, status, report, script=None):
     """The lines that explain a status and its report line; of a session, with its script where that is at hand."""
+    if words[:1] != ["session"] or len(words) != 2:
+        return explain_report(words, status, report, script)
+    before = line_that_ended(script, report) if status else []
+    return [*before, *explain_report(words, status, report, script), *carriage_returns(script)]
+
+
+def explain_report(words, status, report, script):
     if status == 0:
         return undefined(words, report)
     explainers = [

@@ -1,6 +1,7 @@
 """Executables as the scripts read them: program headers, symbols, and the code in a linear reading by objdump."""
 import bisect, collections, hashlib, os, shutil, struct, subprocess, sys, tempfile
 
+import output
 from subset import subset_name
 
 TOP = os.path.dirname(os.path.dirname(os.path.abspath(__file__)))
@@ -21,40 +22,60 @@ def program():
     return None
 
 
+def no_program():
+    """Why there is no recompiler."""
+    given = os.environ.get("BINREC")
+    if not given:
+        return "no program: build it (README.md), or set BINREC to it"
+    if not os.path.exists(given):
+        return f"BINREC names {given}, and there is no such file"
+    return f"BINREC names {given}, which is no program that this user may run"
+
+
 def needed_program(script):
     """The recompiler, or the end of the script with status 3."""
     found = program()
     if not found:
-        sys.stderr.write(f"{script}: no program: build it (README.md) or set BINREC to it\n")
+        output.say(script, no_program())
         sys.exit(3)
     return found
 
 
 def needed_objdump(script):
     if not shutil.which("objdump"):
-        sys.stderr.write(f"{script}: no objdump: install binutils\n")
+        output.say(script, "no objdump: install binutils")
         sys.exit(3)
 
 
-def file_trouble(name):
-    """Why a file cannot be read, in words, or None."""
+def file_trouble(name, shown=None):
+    """Why a file cannot be read, in words, or None. A pipe is not tried, since it can be read once. The name may be shown otherwise."""
+    shown = shown or name
     try:
         if os.path.isdir(name):
-            return f"{name} is a folder"
+            return f"{shown} is a folder"
         if not os.path.exists(name):
-            return f"{name} is a link to a file that is not there" if os.path.islink(name) else f"there is no file {name}"
-        with open(name, "rb") as f:
-            f.read(1)
+            return f"{shown} is a link to a file that is not there" if os.path.islink(name) else f"there is no file {shown}"
+        if os.path.isfile(name):
+            with open(name, "rb") as f:
+                f.read(1)
     except PermissionError:
-        return f"{name} may not be read by this user (ls -l {name})"
+        return f"{shown} may not be read by this user (ls -l {shown})"
     except (OSError, ValueError) as e:
-        return f"{name} cannot be read: {getattr(e, 'strerror', None) or e}"
+        return f"{shown} cannot be read: {getattr(e, 'strerror', None) or e}"
     return None
 
 
 def read(name):
     with open(name, "rb") as f:
         return f.read()
+
+
+def content(name):
+    """The bytes of a regular file; None for anything else, as a pipe, which can be read once, and for what cannot be read."""
+    try:
+        return read(name) if os.path.isfile(name) else None
+    except (OSError, ValueError):
+        return None
 
 
 def is_elf(data):
@@ -88,6 +109,14 @@ def is_recompiled(data):
     """Whether BinRec wrote the file: its entry is recovered code at 01000000, with the private segment at 07000000 behind it."""
     starts = [s.start for s in segments(data)] if is_elf(data) else []
     return is_elf(data) and entry(data) == RECOVERED and starts[:2] == [RECOVERED, 0x07000000]
+
+
+def is_written_from(data, original):
+    """Whether a file that BinRec wrote has the segments of this original, behind its own two."""
+    def told(segments):
+        return [(s.start, s.data, s.size, s.flags) for s in segments]
+
+    return is_elf(original) and told(segments(data)[2:]) == told(segments(original))
 
 
 def sections(data):
