@@ -38,7 +38,7 @@ def gdb(executable, given, kept, steps):
 
 
 def where(words, report, kept):
-    """Lines that say which instruction faulted."""
+    """Lines that say which instruction faulted, over the input that was kept, or over none."""
     if not shutil.which("gdb"):
         return ["no gdb, which would say which instruction faulted"]
     name, given = guest_words(words)
@@ -48,8 +48,9 @@ def where(words, report, kept):
         shutil.copyfile(name, copied)
         os.chmod(copied, 0o700)
         with open(held, "wb") as f:
-            kept.seek(0)
-            shutil.copyfileobj(kept, f)
+            if kept is not None:
+                kept.seek(0)
+                shutil.copyfileobj(kept, f)
         lines = gdb(copied, given, held, steps_of(report))
     if not lines:
         return ["gdb did not come to the fault: the processor may not run 32-bit executables, or goes another way"]

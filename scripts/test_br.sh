@@ -38,6 +38,7 @@ executable turn ebfe
 "$BINREC" trace T E > /dev/null 2>&1
 "$BINREC" trace T2 E > /dev/null 2>&1
 "$BINREC" trace alien other > /dev/null 2>&1
+"$BINREC" build otherN other > /dev/null 2>&1
 printf 'my notes' > notes
 
 loss_rows() {
@@ -54,6 +55,12 @@ loss_rows() {
     kept 'build over another file' notes 'notes is no file that BinRec wrote' build notes E
     kept 'build over another executable' other 'other is no file that BinRec wrote' build other E
     kept 'build over a trace' T 'T is no file that BinRec wrote' build T E
+    kept 'trace over a trace of the same executable' T 'T is a trace of this executable already.*--replace does it' trace T E
+    kept 'trace over it with steps' T 'cure: .*`br merge`' trace --steps 9 T E
+    kept 'build over a file of another executable' otherN 'otherN was written from another executable.*--replace does it' build otherN E
+    kept 'build over it, with traces' otherN 'cure: name another file' build otherN E T
+    kept 'replacing what BinRec did not write' notes 'notes is no trace.*--force does it' --replace trace notes E
+    kept 'replacing the executable' E 'E is the executable itself' --replace build E E
     kept 'trace over a trace of another executable' alien 'alien is a trace of another executable' trace alien E
     kept 'merge that drops the trace it stores under' T 'T is a trace whose pairs would not be kept' merge T E T2
     kept 'merge of no traces over a trace' T 'T is a trace whose pairs would not be kept' merge T E
@@ -72,12 +79,13 @@ session_told() {
 session_rows() {
     session_told 'a session' 0 '^lines 3$' 'add T\nemit S\nremove 1\n'
     session_told 'a session over a file that BinRec wrote' 0 '^lines 1$' 'emit S\n'
-    session_told 'a session over the executable' 8 'E is the executable itself' 'add T\nemit E\n'
-    session_told 'a session over another file' 8 'notes is no file that BinRec wrote' 'emit S\nemit notes'
-    session_told 'a line that is none' 2 'line 2: drop 1' 'add T\ndrop 1\n'
+    session_told 'a session over the executable' 8 "'E' is the executable itself" 'add T\nemit E\n'
+    session_told 'a session over another file' 8 "'notes' is no file that BinRec wrote" 'emit S\nemit notes'
+    session_told 'a session over a file of another executable' 8 "'otherN' was written from another executable" 'emit S\nemit otherN'
+    session_told 'a line that is none' 2 "ended at line 2: 'drop 1'" 'add T\ndrop 1\n'
     session_told 'a number that is not live' 2 'no live trace has the number' 'remove 1\n'
-    session_told 'a trace of another executable in a session' 2 'alien: the trace is of another executable' 'add alien\n'
-    session_told 'an absent trace in a session' 3 'there is no file absent' 'add absent\n'
+    session_told 'a trace of another executable in a session' 2 "'alien': the trace is of another executable" 'add alien\n'
+    session_told 'an absent trace in a session' 3 "there is no file 'absent'" 'add absent\n'
     printf 'add T\nemit S\n' | "$br" session E > got.out 2> got.err
     judge 'a session through a pipe' 0 '^lines 2$' $? got.err
     "$br" session E > got.out 2> got.err <&-
@@ -85,8 +93,173 @@ session_rows() {
     if [ "$(cat notes)" = 'my notes' ]; then pass; else fail 'a session changed another file'; fi
 }
 
+# Where a session ended: the line that the program came to, and no name of a line behind it.
+end_rows() {
+    local script='add T\n\nemit S\nadd absent\nadd missing\nemit nowhere/N\n'
+    session_told 'the line that ended a session' 3 "ended at line 4: 'add absent'" "$script"
+    if grep -Eq 'missing|nowhere' got.err; then fail "names of lines that were not reached: $(cat got.err)"; else pass; fi
+    session_told 'a folder that is not there in a session' 3 "ended at line 2: 'emit nowhere/N'" 'add T\nemit nowhere/N\nadd absent'
+    if grep -q 'there is no folder nowhere' got.err && ! grep -q absent got.err; then pass; else fail "the cause of line 2: $(cat got.err)"; fi
+    session_told 'a CR at the end of a line' 3 "there is no file 'T.r'" 'add T\r\nemit S\r\n'
+    if grep -q 'line 1 ends with CR LF' got.err; then pass; else fail "what a CR does: $(cat got.err)"; fi
+    session_told 'a CR in a session that ends well' 0 'line 2 ends with CR LF' 'add T\nemit S\r\n'
+    session_told 'a CR alone in a line' 2 "ended at line 2: '.r'" 'add T\n\r\nemit S\n'
+    printf 'add T\nadd T\nemit S\n' | "$br" session E 2> got.err > /dev/full
+    judge 'a session whose output is full' 3 "ended at line 1: 'add T'" $? got.err
+    session_told 'a long line' 2 "ended at line 2: 'add x*'[.][.];" "add T\nadd $(printf '%05000d' 0 | tr 0 x)\nemit S\n"
+    printf 'emit S\n' | "$br" session absent > got.out 2> got.err
+    judge 'a session of an absent file' 3 'there is no file absent' $? got.err
+    if grep -q 'ended at line' got.err; then fail "a line of a session that never began: $(cat got.err)"; else pass; fi
+}
+
+# A script is taken whole, or the program is not started.
+whole_rows() {
+    local lines
+    # Some 60000 bytes of empty lines, and the last line is no whole name where the script is cut.
+    lines=$(printf '%060000d' 0 | tr 0 '\n'; echo x)
+    lines=${lines%x}
+    printf 'add T\n%semit E' "$lines" > script
+    cp E before
+    (ulimit -f 1 && exec "$br" session E < script > /dev/null 2> /dev/null)
+    [ $? = 8 ] && pass || fail 'a script under a limit on file size'
+    if cmp -s E before; then pass; else fail 'a script under a limit on file size: E was replaced'; fi
+    printf 'add T\n%s' "$lines" > script
+    (ulimit -f 1 && exec "$br" session E < script > got.pipe 2> /dev/null)
+    [ $? = 0 ] && pass || fail 'a script that is longer than a file may be'
+    (ulimit -f 1 && exec "$br" --where run E < script > got.out 2> got.err)
+    judge 'an input of --where under a limit on file size' 9 'cannot be taken whole: File too large; the program was not started' $? got.err
+    small_rows "$lines"
+    # Memory that does not hold the script.
+    { printf 'emit S\n'; head -c 300000000 /dev/zero | tr '\0' '\n'; } | "$br" session E > got.out 2> got.err
+    judge 'a script that is too long' 9 'cannot be taken whole.*not started' $? got.err
+    "$br" session E < / > got.out 2> got.err
+    judge 'a script that is a folder' 9 'cannot be taken whole.*not started' $? got.err
+    if (ulimit -v 200000 && "$br" --help > /dev/null 2>&1); then
+        { printf 'emit S\n'; head -c 200000000 /dev/zero | tr '\0' '\n'; } > long.script
+        (ulimit -v 200000 && exec "$br" session E < long.script > got.out 2> got.err)
+        judge 'a script that memory does not hold' 9 'no memory for it.*not started' $? got.err
+        rm long.script
+    else
+        skip 'a script that memory does not hold: br does not start in 200 MB'
+    fi
+}
+
+# The same where the folder for temporary files is full: $1 is the text behind the first line.
+small_rows() {
+    mkdir -p small
+    if ! unshare -m true 2> /dev/null; then
+        skip 'a small file system: unshare -m is not allowed, or is not there'
+        return
+    fi
+    printf 'add T\n%semit E' "$1" > script
+    unshare -m sh -c 'mount -t tmpfs -o size=8k small small && head -c 8192 /dev/zero > small/full; TMPDIR=$PWD/small exec "$0" session E < script' \
+        "$br" > got.out 2> got.err
+    judge 'a script where the temporary folder is full' 8 "'E' is the executable itself" $? got.err
+    if cmp -s E before; then pass; else fail 'a script where the temporary folder is full: E was replaced'; fi
+    printf 'add T\n%semit small/N' "$1" > script
+    unshare -m sh -c 'mount -t tmpfs -o size=20k small small && cp otherN small/N && "$0" --replace session E < script; status=$?; cmp small/N otherN && ls -A small && exit $status' \
+        "$br" > got.out 2> got.err
+    judge 'a store on a small file system' 3 'ended at line 60002|file system of small is full' $? got.err
+    if [ "$(tail -n 1 got.out)" = N ]; then pass; else fail "a small file system: $(cat got.out)"; fi
+}
+
+# Whether a process is there, and is no zombie.
+lives() { [ -e "/proc/$1/stat" ] && [ "$(sed 's/.*) //; s/ .*//' "/proc/$1/stat" 2> /dev/null)" != Z ]; }
+
+# The number of the program that the br $1 is waiting for, once there is one: $2 is a word of its command.
+program_of() {
+    local found
+    for _ in $(seq 200); do
+        for found in $(ps -o pid= --ppid "$1"); do
+            # Before it is the program, it is a copy of Python; and br itself is first a shell with children of its own.
+            { tr '\0' '\n' < "/proc/$found/cmdline" > command; } 2> /dev/null
+            if grep -qx -- "$2" command && ! grep -q 'front\.py$' command; then
+                echo "$found"
+                return
+            fi
+        done
+        sleep 0.05
+    done
+}
+
+# A signal to br ends the program too, and br with it.
+signal_rows() {
+    local name waiter program status
+    command -v ps > /dev/null || { skip 'signals: no ps'; return; }
+    for name in TERM HUP INT KILL; do
+        # A job of a script ignores INT, which env gives back where it can.
+        python3 -c 'import os, signal, sys; signal.signal(signal.SIGINT, signal.SIG_DFL); os.execvp(sys.argv[1], sys.argv[1:])' \
+            "$br" trace --steps 999999999999 "signal.$name" turn > /dev/null 2> got.err &
+        waiter=$!
+        program=$(program_of "$waiter" "signal.$name")
+        if [ -z "$program" ]; then
+            fail "$name: br has no child"
+            kill -KILL "$waiter"
+            continue
+        fi
+        kill "-$name" "$waiter"
+        wait "$waiter" 2> /dev/null
+        status=$?
+        [ "$status" = $((128 + $(kill -l "$name"))) ] && pass || fail "$name: br ended with $status"
+        # After KILL the system ends the program, which nobody waits for.
+        for _ in $(seq 40); do lives "$program" || break; sleep 0.05; done
+        if lives "$program"; then fail "$name: the program goes on"; kill -KILL "$program"; else pass; fi
+        if [ "$name" = KILL ] || grep -q "ended by SIG$name" got.err; then pass; else fail "$name is not told: $(cat got.err)"; fi
+        if [ -e "signal.$name" ]; then fail "$name: a trace was stored"; else pass; fi
+    done
+}
+
+# Descriptors that words name.
+descriptor_rows() {
+    "$BINREC" show E T > listed 2> /dev/null
+    "$br" show <(cat E) T > got.out 2> got.err
+    judge 'an executable through a pipe' 0 '^shown [1-9]' $? got.err
+    if cmp -s listed got.out; then pass; else fail 'an executable through a pipe: another listing'; fi
+    "$br" show /dev/fd/3 /dev/fd/4 3< E 4< T > got.out 2> got.err
+    judge 'descriptors by number' 0 '^shown [1-9]' $? got.err
+    if cmp -s listed got.out; then pass; else fail 'descriptors by number: another listing'; fi
+    "$br" run <(cat null) > got.out 2> got.err
+    judge 'a fault of an executable through a pipe' 5 '^fault access 00000000 steps 2 undefined 0$' $? got.err
+    if grep -q Traceback got.err; then fail "a fault through a pipe: $(cat got.err)"; else pass; fi
+    printf 'add /dev/fd/7\nemit S\n' | "$br" session E 7< T > got.out 2> got.err
+    judge 'a descriptor in a script' 0 '^lines 2$' $? got.err
+}
+
+# An output that cannot be written is told, with a status of its own and no trace of Python.
+output_rows() {
+    local words
+    for words in "9 $br --help" "9 $br --version" "4 $here/fits E" "4 $here/fits --help" "4 $here/coverage E T" "4 $here/coverage --help" "4 $here/graph E T" "4 $here/graph --help"; do
+        set -- $words
+        if [ "${2##*/}" != br ] && [ "${2##*/}" != graph ] && ! command -v objdump > /dev/null; then
+            skip "a failing output of ${2##*/}: no objdump"
+            continue
+        fi
+        "${@:2}" 2> got.err > /dev/full
+        judge "a full output: ${2##*/} $3" "$1" "^${2##*/}: standard output cannot be written: No space left" $? got.err
+        [ "$(wc -l < got.err)" = 1 ] && pass || fail "a full output: ${2##*/} $3: $(cat got.err)"
+        "${@:2}" 2> got.err >&-
+        judge "a closed output: ${2##*/} $3" "$1" "^${2##*/}: standard output is closed$" $? got.err
+        { "${@:2}" 2> got.err; echo $? > status; } | true
+        if grep -q Traceback got.err; then fail "an output without a reader: ${2##*/} $3: $(cat got.err)"; else pass; fi
+        "${@:2}" > /dev/full 2>&-
+        [ $? = "$1" ] && pass || fail "a full output and a closed error: ${2##*/} $3"
+    done
+    "$br" --where run null 2> got.err >&-
+    judge 'where it faulted, with a closed output' 5 '^fault access' $? got.err
+    if grep -q Traceback got.err; then fail "where it faulted, with a closed output: $(cat got.err)"; else pass; fi
+    "$br" --where run null 2> got.err > /dev/null <&-
+    judge 'where it faulted, with a closed input' 5 '^fault access' $? got.err
+    if grep -q Traceback got.err; then fail "where it faulted, with a closed input: $(cat got.err)"; else pass; fi
+    "$br" --where run null > /dev/null 2> /dev/full
+    [ $? = 3 ] && pass || fail 'where it faulted, with a full error'
+}
+
 leave_rows() {
-    told 'trace over a trace of it' 0 '^exit 0 steps 8 undefined 0 edges 1$' trace T E
+    told 'trace over a trace of it, replaced' 0 '^exit 0 steps 8 undefined 0 edges 1$' --replace trace T E
+    cp otherN replacedN
+    told 'build over a file of another executable, replaced' 0 '^built 0 5 ' --replace build replacedN E
+    told 'build over a file of the same executable' 0 '^built 0 5 ' build replacedN E
+    told 'trace to another name' 0 '^exit 0 steps 8 undefined 0 edges 1$' trace T3 E
     told 'merge that keeps what it stores under' 0 '^merged 1$' merge T E T T2
     : > free
     told 'over an empty file' 0 '^built 0 5 ' build free E
@@ -111,6 +284,8 @@ mistake_rows() {
     told 'a folder' 3 '\. is a folder' show .
     told 'a folder to store under' 3 '\. is a folder' build . E
     told 'a folder that is not there' 3 'there is no folder nowhere' build nowhere/N E
+    told 'a folder of the kernel' 3 '/proc is made by the kernel, and takes no new files' build /proc/x E
+    if grep -q full got.err; then fail "a folder of the kernel: $(cat got.err)"; else pass; fi
     told 'a 64-bit file' 2 'it is a 64-bit file' show /bin/sh
     echo 'a text that is longer than the fifty-two bytes of a header' > text
     told 'a text' 2 'it is a text' show text
@@ -197,7 +372,11 @@ stream_rows() {
     told 'the version' 0 '' --version
     if grep -q '^program .*SHA-256 [0-9a-f]\{64\}$' got.out; then pass; else fail "the version: $(cat got.out)"; fi
     BINREC=/nowhere "$br" --version > got.out 2> got.err
-    judge 'no program' 127 'no program: build it' $? got.err
+    judge 'a program that is not there' 127 'BINREC names /nowhere, and there is no such file' $? got.err
+    BINREC=$PWD/notes "$br" --version > got.out 2> got.err
+    judge 'a program that is none' 127 'BINREC names .*notes, which is no program' $? got.err
+    BINREC=/nowhere "$here/graph" E T > got.out 2> got.err
+    judge 'a program that is not there, of graph' 3 'BINREC names /nowhere, and there is no such file' $? got.err
 }
 
 ln -s nothing dangling
@@ -213,6 +392,11 @@ find_native ./zero
 loss_rows
 leave_rows
 session_rows
+end_rows
+whole_rows
+signal_rows
+descriptor_rows
+output_rows
 mistake_rows
 permission_rows
 fault_rows

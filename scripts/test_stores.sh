@@ -8,6 +8,7 @@ here=$(cd "$(dirname "$0")" && pwd)
 enter_folder "$1"
 hi="b804000000 bb01000000 b976800408 ba03000000 cd80 b801000000 bb00000000 cd80 68690a"
 executable E "$hi"
+executable second "$hi 90"
 "${tool[0]}" build whole E 2> /dev/null
 
 # NAME CONDITION..: the words are a test.
@@ -54,32 +55,102 @@ mode_rows() {
     fi
 }
 
-# What was left by a store that was killed hinders nothing and is not touched.
-stale_rows() {
-    echo old > N
-    echo stale > N.part
-    echo stale > N.part1
-    ends 'beside parts that were left' 0 build N E
-    holds 'the new content' same N whole
-    holds 'parts that were left stay' [ "$(cat N.part N.part1)" = $'stale\nstale' ]
-    holds 'no further part' [ "$(parts)" = 2 ]
+# Parts of the process with the number $1, from $2 to $3.
+left_parts() {
+    local k
+    for k in $(seq "$2" "$3"); do echo stale > "N.part-$1-$k"; done
 }
 
-# A limit on the size of files stands for a full disk: the old content stays, also beside a part that was left.
+# In a process whose number is known before: stores N where the parts from $1 to $2 of this very process are there already.
+stores_beside() {
+    (
+        trap '' XFSZ
+        left_parts "$BASHPID" "$1" "$2"
+        [ -z "${3-}" ] || ulimit -f "$3"
+        exec "${tool[0]}" build N E
+    ) > got.out 2> got.err
+}
+
+# What was left by a store that was killed hinders nothing and is not touched. Where no part can be had, the old file stays.
+stale_rows() {
+    local status
+    rm -f N*
+    echo old > N
+    for k in '' 1 2 3 4 5 6 7 8 9; do echo stale > "N.part$k"; done
+    stores_beside 0 2
+    holds "beside parts that were left: $(cat got.err)" same N whole
+    holds 'parts that were left stay' [ "$(cat N.part* | sort -u)" = stale ]
+    holds 'no further part' [ "$(parts)" = 13 ]
+    rm -f N*
+    echo old > N
+    stores_beside 0 98
+    holds "beside all parts but one: $(cat got.err)" same N whole
+    holds 'no further part beside all but one' [ "$(parts)" = 99 ]
+    rm -f N*
+    echo old > N
+    stores_beside 0 99
+    status=$?
+    holds "where all parts are taken: status $status, $(cat got.err)" [ "$status $(cat got.err)" = '3 outside shelf' ]
+    holds 'where all parts are taken the old file stays' [ "$(cat N)" = old ]
+    holds 'where all parts are taken none is touched' [ "$(parts) $(cat N.part* | sort -u)" = '100 stale' ]
+    rm -f N*
+}
+
+# A store that is killed at any time leaves the old file or the new one, whole, also beside what the kills before it left.
+kill_rows() {
+    local k pause old=0 new=0 other=0
+    rm -f N*
+    "${tool[0]}" build oldN second 2> /dev/null
+    for k in $(seq 300); do
+        cp oldN N
+        "${tool[0]}" build N E > /dev/null 2>&1 &
+        # From no time at all to longer than a store takes.
+        pause=$((k % 30 * 4 / 10))
+        [ "$pause" = 0 ] || sleep "0.00$pause"
+        { kill -KILL $! && wait $!; } 2> /dev/null
+        if same N oldN; then old=$((old + 1)); elif same N whole; then new=$((new + 1)); else other=$((other + 1)); fi
+    done
+    holds "after 300 kills the old file or the new one: $old old, $new new, $other others" [ "$other" = 0 ]
+    holds "kills before and behind the store: $old old, $new new" [ "$old" -gt 0 ]
+    holds 'a store after 300 kills' "${tool[0]}" build N E 2> got.err
+    holds "the new content after 300 kills: $(cat got.err)" same N whole
+    rm -f N*
+}
+
+# A limit on the size of files stands for a full disk: the old content stays, also beside many parts that were left.
 full_rows() {
     local left
-    for left in none stale; do
+    for left in 0 31; do
         rm -f N*
         cp E N
-        [ "$left" = none ] || echo stale > N.part
-        (trap '' XFSZ && ulimit -f 4 && exec "${tool[0]}" build N E) > got.out 2> got.err
-        holds "a full disk, $left part: $(cat got.err)" [ "$(cat got.err)" = 'outside shelf' ]
-        holds "the old content stays on a full disk, $left part" same N E
-        rm -f N.part
-        holds "no part is left on a full disk, $left part" [ "$(parts)" = 0 ]
+        if [ "$left" = 0 ]; then
+            stores_beside 1 0 4
+        else
+            for k in '' 1 2 3 4 5 6 7 8 9; do echo stale > "N.part$k"; done
+            stores_beside 0 20 4
+        fi
+        holds "a full disk, $left parts: $(cat got.err)" [ "$(cat got.err)" = 'outside shelf' ]
+        holds "the old content stays on a full disk, $left parts" same N E
+        holds "no part is added on a full disk beside $left" [ "$(parts)" = "$left" ]
     done
+    rm -f N*
     ends 'a full device' 3 build /dev/full E
     ends 'a device' 0 build /dev/null E
+}
+
+# A file system that has no room for a second file, or no number for one: the old content stays.
+small_rows() {
+    local row
+    if ! unshare -m true 2> /dev/null; then
+        skip 'small file systems: unshare -m is not allowed, or is not there'
+        return
+    fi
+    mkdir -p small
+    for row in size=12k nr_inodes=2; do
+        unshare -m sh -c 'mount -t tmpfs -o "$3" small small && cp E small/N && "$0" build small/N "$2"; status=$?; cmp small/N E && ls -A small && exit $status' \
+            "${tool[0]}" "" E "$row" > got.out 2> got.err
+        holds "a file system of $row: $(cat got.out got.err)" [ "$? $(cat got.err) $(cat got.out)" = '3 outside shelf N' ]
+    done
 }
 
 link_rows() {
@@ -123,6 +194,8 @@ new_rows
 mode_rows
 stale_rows
 full_rows
+small_rows
+kill_rows
 link_rows
 folder_rows
 stream_rows
