@@ -61,7 +61,19 @@ counts() {
         "$(sed -n '/^    -m32 -march/,/^$/p' docs/USING.md | tr ' ' '\n' | grep -v '^$')" ]
 }
 
+# The page for man.
+page() {
+    local said
+    if ! command -v mandoc > /dev/null; then
+        skip 'the page for man: no mandoc'
+        return
+    fi
+    said=$(mandoc -Tlint docs/binrec.1 2>&1)
+    holds "docs/binrec.1: $said" [ -z "$said" ]
+}
+
 links
+page
 names
 crates
 counts
