@@ -113,7 +113,7 @@ def main():
     chosen = options(words)
     if words[:1] == ["record"]:
         import recording
-        return recording.main(words[1:], "--force" in chosen)
+        return recording.main(words[1:], chosen)
     program = executables.program()
     if not program:
         say(executables.no_program())
@@ -148,7 +148,8 @@ def guarded(program, words, chosen):
 
 def is_own(words):
     """Whether the words ask for output of br's own."""
-    return words[:1] in (["--help"], ["-h"]) or "--version" in words[:1]
+    asked = words[1:2] if words[:1] == ["record"] else words[:1]
+    return asked in (["--help"], ["-h"], ["--version"])
 
 
 if __name__ == "__main__":

@@ -18,6 +18,7 @@ import fcntl, os, resource, select, shutil, signal, struct, subprocess, sys
 
 import causes
 import executables
+import output
 from execution_log import Edges
 from transfers import Code
 
@@ -37,11 +38,7 @@ class Trouble(Exception):
 
 
 def say(text):
-    try:
-        sys.stderr.write(f"br: {text}\n")
-        sys.stderr.flush()
-    except (OSError, AttributeError):
-        pass
+    output.say("br", text)
 
 
 # ---- Before the run ----
@@ -326,12 +323,12 @@ def report(line):
     return 0
 
 
-def main(words, force=False):
-    """The command behind the word `record`."""
+def main(words, given=()):
+    """The command behind the word `record`, with the options that stand before it."""
     if words[:1] in (["--help"], ["-h"]):
         print(__doc__.strip())
         return 0
-    chosen = "--force" if force else ""
+    chosen = next((option for option in ("--force", "--replace") if option in given), "")
     while words and words[0] in ("--merge", "--replace"):
         chosen = words.pop(0)
     try:
