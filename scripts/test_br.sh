@@ -171,9 +171,9 @@ program_of() {
     local found
     for _ in $(seq 200); do
         for found in $(ps -o pid= --ppid "$1"); do
-            # Before it is the program, it is a copy of Python; and br itself is first a shell with children of its own.
-            { tr '\0' '\n' < "/proc/$found/cmdline" > command; } 2> /dev/null
-            if grep -qx -- "$2" command && ! grep -q 'front\.py$' command; then
+            # Before it is the program, it is a copy of Python; and br itself is first a shell with copies of itself.
+            { tr '\0' '\n' < "/proc/$found/cmdline" > command; } 2> /dev/null || continue
+            if grep -qx -- "$2" command && ! grep -Eq '/(br|front\.py)$' command; then
                 echo "$found"
                 return
             fi
