@@ -120,7 +120,7 @@ whole_rows() {
     lines=${lines%x}
     printf 'add T\n%semit E' "$lines" > script
     cp E before
-    (ulimit -f 1 && exec "$br" session E < script > /dev/null 2> /dev/null)
+    (ulimit -f 20 && exec "$br" session E < script > /dev/null 2> /dev/null)
     [ $? = 8 ] && pass || fail 'a script under a limit on file size'
     if cmp -s E before; then pass; else fail 'a script under a limit on file size: E was replaced'; fi
     printf 'add T\n%s' "$lines" > script
