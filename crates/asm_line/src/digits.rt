@@ -1,0 +1,48 @@
+//! Bytes by their digits.
+
+ghost use Rattle.std.specs.Prelude.{◌≡◌, ◌++◌, ◌<◌, OnOk};
+ghost use Rattle.asm_line.specs.Forms.{each, is_digit, value_of, are_digits, values};
+
+use asm_inst::digit_of;
+use std::alloc::AllocError;
+
+/// The most bytes of one line.
+pub const BYTE_LIMIT: usize = 64;
+
+/// The value of a digit, and 0 of what is none.
+fn value_of(digit: u8) -> u8
+    ensures value { result ≡ value_of digit }
+    ensures small { result < 16 }
+{
+    match digit_of(digit) {
+        Some(value) => value as u8,
+        None => 0,
+    }
+}
+
+fn is_digit(digit: u8) -> bool
+    ensures { result ≡ is_digit digit }
+{
+    digit_of(digit).is_some()
+}
+
+/// Whether these are the digits of 1 to [`BYTE_LIMIT`] bytes, two lower-case hexadecimal digits each.
+pub fn are_digits(digits: &[u8]) -> bool
+    ensures { result ≡ are_digits digits.now }
+{
+    !digits.is_empty()
+        && digits.len() <= 2 * BYTE_LIMIT
+        && digits.len() % 2 == 0
+        && digits.iter().all(|digit| is_digit(*digit))
+}
+
+/// Appends the bytes of digits. After want of memory a part of them may stand in `out`.
+pub fn put_digits(out: &mut Vec<u8>, mut digits: &[u8]) -> Result<(), AllocError>
+    ensures { OnOk result (out.new ≡ out.old ++ values digits.now) }
+{
+    while let [high, low, rest @ ..] = digits {
+        out.push(value_of(*high) * 16 + value_of(*low))?;
+        digits = rest;
+    }
+    Ok(())
+}
