@@ -1,0 +1,4 @@
+pub mod LineTexts
+pub mod LineForms
+pub mod LineSizes
+pub mod CodeBytes

@@ -1,5 +1,6 @@
 -- What a line of a source is, and the bytes that it gives.
 use Rattle.std.specs.Prelude.{ℕ, ◌+◌, ◌-◌, ◌*◌, ◌%◌, ◌==◌, ◌&&◌, not, is_some, nat_eq, nat_le, nat_lt, Bool, true, false, List, [], ◌∷◌, length, take, drop, codes, Option, Some, None, if◌then◌else◌}
+use Rattle.std.specs.List.{list_all}
 use Rattle.std.specs.Str.{bytes_eq}
 use Rattle.ia_inst.specs.declared.inst.Inst.{Inst}
 use Rattle.ia_inst.specs.declared.inst.Inst.TheVariants as inst
@@ -27,11 +28,6 @@ pub data Form : Type 0 where
 
 -- ---- parts of a line
 
--- each byte passes
-unfoldable pub each : (ℕ → Bool) → List ℕ → Bool
-each passes [] = true
-each passes (x ∷ xs) = passes x && each passes xs
-
 -- what stands behind a word
 abbrev pub behind : List ℕ → List ℕ → Option (List ℕ)
 behind word s = if bytes_eq (take (length word) s) word then Some (drop (length word) s) else None
@@ -58,7 +54,7 @@ abbrev pub is_register : List ℕ → Bool
 is_register s = is_some (any_register s)
 
 unfoldable pub is_label : List ℕ → Bool
-is_label s = opens_name s && (nat_le (length s) LABEL_LIMIT && (each is_name_byte s && not (is_register s)))
+is_label s = opens_name s && (nat_le (length s) LABEL_LIMIT && (list_all is_name_byte s && not (is_register s)))
 
 -- ---- bytes
 
@@ -75,7 +71,7 @@ value_of x = or_zero (digit_of x)
 
 -- the digits of at least one byte, and not of too many
 unfoldable pub are_digits : List ℕ → Bool
-are_digits ds = nat_lt 0 (length ds) && (nat_le (length ds) (2 * BYTE_LIMIT) && ((length ds % 2 == 0) && each is_digit ds))
+are_digits ds = nat_lt 0 (length ds) && (nat_le (length ds) (2 * BYTE_LIMIT) && ((length ds % 2 == 0) && list_all is_digit ds))
 
 -- the bytes of digits, two each
 unfoldable pub values : List ℕ → List ℕ

@@ -1,7 +1,8 @@
 //! Bytes by their digits.
 
 ghost use Rattle.std.specs.Prelude.{◌≡◌, ◌++◌, ◌<◌, OnOk};
-ghost use Rattle.asm_line.specs.Forms.{each, is_digit, value_of, are_digits, values};
+ghost use Rattle.std.specs.List.{list_all};
+ghost use Rattle.asm_line.specs.Forms.{is_digit, value_of, are_digits, values};
 
 use asm_inst::digit_of;
 use std::alloc::AllocError;

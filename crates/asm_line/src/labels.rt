@@ -1,7 +1,8 @@
 //! Labels.
 
 ghost use Rattle.std.specs.Prelude.{◌≡◌};
-ghost use Rattle.asm_line.specs.Forms.{each, is_decimal, is_name_byte, opens_name, is_register, is_label};
+ghost use Rattle.std.specs.List.{list_all};
+ghost use Rattle.asm_line.specs.Forms.{is_decimal, is_name_byte, opens_name, is_register, is_label};
 
 use asm_inst::any_register;
 use std::str;
@@ -27,7 +28,7 @@ fn opens_name(name: &[u8]) -> bool
 }
 
 fn are_name_bytes(name: &[u8]) -> bool
-    ensures { result ≡ each is_name_byte name.now }
+    ensures { result ≡ list_all is_name_byte name.now }
 {
     name.iter().all(|byte| is_name_byte(*byte))
 }

@@ -1,6 +1,7 @@
 //! The form of a line.
 
 ghost use Rattle.std.specs.Prelude.{◌≡◌, option_map, IfSome, IsTrue};
+ghost use Rattle.asm_inst.specs.Operands.{or_else};
 ghost use Rattle.asm_line.specs.Forms.{label_line, byte_line, transfer_line, instruction_line, statement_of, form_of, formed, is_form};
 
 use crate::digits::are_digits;

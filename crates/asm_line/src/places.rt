@@ -1,6 +1,7 @@
 //! The bytes of a form.
 
 ghost use Rattle.std.specs.Prelude.{◌≡◌, ◌++◌, ◌≤◌, OnOk, IsTrue};
+ghost use Rattle.ia_inst.specs.Canonical.{valid_of, canonical};
 ghost use Rattle.asm_line.specs.Forms.{is_form, formed, size_of_form, bytes_of_form};
 
 use crate::digits::put_digits;
