@@ -1,6 +1,7 @@
 -- The form of a line can be written.
-use Rattle.std.proofs.Common.{◌≡◌, ℕ, ◌&&◌, Bool, true, false, cond, ltb, eqb, List, length, take, drop, Option, Some, None, refl, subst}
-use Rattle.std.specs.Prelude.{codes}
+use Rattle.std.proofs.Common.{◌≡◌, ℕ, ◌&&◌, Bool, true, false, cond, ltb, eqb, List, length, take, drop, Option, Some, None, refl, sym, IfSome}
+use Rattle.std.specs.Prelude.{codes, IsTrue}
+use Rattle.std.specs.Option.{option_map}
 use Rattle.std.specs.Str.{bytes_eq}
 use Rattle.std.proofs.lemmas.Bool.{and_from}
 use Rattle.ia_inst.specs.Canonical.{valid_of}
@@ -14,7 +15,8 @@ use Rattle.asm_inst.proofs.Reading.{read_sound}
 use Rattle.asm_inst.proofs.Words.{one_ok_read}
 use Rattle.asm_line.specs.declared.transfers.Transfer.{Transfer}
 use Rattle.asm_line.specs.declared.transfers.Transfer.TheVariants.{Jcc, Jmp, Call}
-use Rattle.asm_line.specs.Forms.{Form, Nothing, Label, Bytes, Stands, Goes, behind, before, is_label, are_digits, transfer_of, is_transfer, is_form, label_line, byte_line, transfer_line, instruction_line, statement_of, form_of}
+use Rattle.asm_line.specs.declared.lines.Form as read
+use Rattle.asm_line.specs.Forms.{Form, formed, Nothing, Label, Bytes, Stands, Goes, behind, before, is_label, are_digits, transfer_of, is_transfer, is_form, label_line, byte_line, transfer_line, instruction_line, statement_of, form_of}
 use Rattle.asm_line.specs.Laws.{FormsAreValid}
 use Rattle.asm_line.proofs.LineTexts.{holds_any}
 
@@ -70,3 +72,8 @@ form_valid line at =
 
 pub forms_are_valid : FormsAreValid
 forms_are_valid line at f e = (form_valid line at).read f e
+
+-- of a form that was read
+pub read_valid : (line : List ℕ) (at : ℕ) (r : Option read.Form) → option_map formed r ≡ form_of line at → IfSome r (λ f. IsTrue (is_form (formed f)))
+read_valid line at None e = tt
+read_valid line at (Some f) e = (form_valid line at).read (formed f) (sym e)

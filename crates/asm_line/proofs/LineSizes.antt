@@ -1,9 +1,9 @@
 -- How many bytes a line gives.
-use Rattle.std.proofs.Common.{◌≡◌, ℕ, ◌+◌, ◌-◌, ◌*◌, ◌≤◌, ◌&&◌, Bool, true, false, cond, leb, eqb, List, [], ◌∷◌, ◌++◌, length, take, drop, Option, Some, None, refl, sym, ap, ◌∙◌, arith, length-append, length-drop}
+use Rattle.std.proofs.Common.{◌≡◌, ℕ, ◌+◌, ◌-◌, ◌*◌, ◌/◌, ◌≤◌, ◌&&◌, Bool, true, false, cond, leb, ltb, eqb, List, [], ◌∷◌, ◌++◌, length, take, drop, Option, Some, None, refl, sym, ap, ◌∙◌, arith, length-append, length-drop}
 use Rattle.std.proofs.lemmas.List.{length-take}
 use Rattle.std.specs.Prelude.{codes}
 use Rattle.std.specs.Str.{bytes_eq}
-use Rattle.std.proofs.lemmas.Bool.{leb-true}
+use Rattle.std.proofs.lemmas.Bool.{and_parts, leb-true}
 use Rattle.std.proofs.lemmas.Slice.Eq.{bytes_eq-Decides}
 use Rattle.ia_inst.specs.declared.inst.Inst.{Inst}
 use Rattle.ia_inst.specs.Canonical.{canonical, valid_of}
@@ -75,6 +75,18 @@ unfolding values
 values_short [] = omega arith
 values_short (a ∷ []) = omega arith
 values_short (a ∷ b ∷ ds) = let h = values_short ds in omega (arith, h)
+
+pub values_length : (ds : List ℕ) → length (values ds) ≡ length ds / 2
+unfolding values
+values_length [] = refl
+values_length (a ∷ []) = refl
+values_length (a ∷ b ∷ ds) = let h = values_length ds in omega (arith, h)
+
+pub digits_few : (ds : List ℕ) → are_digits ds ≡ true → length ds ≤ 128
+unfolding are_digits
+digits_few ds h =
+    let p = and_parts (ltb 0 (length ds)) _ h in
+    leb-true (length ds) 128 ((and_parts (leb (length ds) 128) _ p.1).0)
 
 -- ---- parts of a line
 

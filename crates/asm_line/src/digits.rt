@@ -27,19 +27,26 @@ fn is_digit(digit: u8) -> bool
     digit_of(digit).is_some()
 }
 
+fn are_hexadecimal(digits: &[u8]) -> bool
+    ensures { result ≡ list_all is_digit digits.now }
+{
+    digits.iter().all(|digit| is_digit(*digit))
+}
+
 /// Whether these are the digits of 1 to [`BYTE_LIMIT`] bytes, two lower-case hexadecimal digits each.
+#[tactic(auto, unfolding(crate::specs::Forms::are_digits))]
 pub fn are_digits(digits: &[u8]) -> bool
     ensures { result ≡ are_digits digits.now }
 {
     !digits.is_empty()
         && digits.len() <= 2 * BYTE_LIMIT
         && digits.len() % 2 == 0
-        && digits.iter().all(|digit| is_digit(*digit))
+        && are_hexadecimal(digits)
 }
 
 /// Appends the bytes of digits. After want of memory a part of them may stand in `out`.
 pub fn put_digits(out: &mut Vec<u8>, mut digits: &[u8]) -> Result<(), AllocError>
-    ensures { OnOk result (out.new ≡ out.old ++ values digits.now) }
+    ensures { OnOk result (out.new.items ≡ out.old.items ++ values digits.now) }
 {
     while let [high, low, rest @ ..] = digits {
         out.push(value_of(*high) * 16 + value_of(*low))?;

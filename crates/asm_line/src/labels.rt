@@ -11,10 +11,11 @@ use std::str;
 pub const LABEL_LIMIT: usize = 64;
 
 /// A digit, a lower-case letter or `_`.
+#[tactic(auto, unfolding(asm_inst::specs::Names::is_plain))]
 fn is_name_byte(byte: u8) -> bool
     ensures { result ≡ is_name_byte byte }
 {
-    matches!(byte, b'_' | b'0'..=b'9' | b'a'..=b'z')
+    byte == b'_' || matches!(byte, b'0'..=b'9' | b'a'..=b'z')
 }
 
 /// Whether there is a first byte, and that is no digit.
@@ -48,6 +49,7 @@ fn is_register(name: &[u8]) -> bool
 ///
 /// A label has 1 to [`LABEL_LIMIT`] of the characters `a` to `z`, `0` to `9` and `_`, does not begin with a digit, and is no
 /// register's name.
+#[tactic(auto, unfolding(crate::specs::Forms::is_label))]
 pub fn is_label(name: &[u8]) -> bool
     ensures { result ≡ is_label name.now }
 {

@@ -7,7 +7,7 @@ ghost use Rattle.asm_line.specs.Forms.{label_line, byte_line, transfer_line, ins
 use crate::digits::are_digits;
 use crate::labels::is_label;
 use crate::transfers::{Transfer, transfer_of};
-use asm_inst::{one_of, read_inst};
+use asm_inst::{one_of, read_inst, split};
 use ia_inst::Inst;
 use std::str;
 
@@ -51,7 +51,7 @@ fn byte_line(text: &[u8]) -> Option<Form<'_>>
 fn transfer_line(text: &str) -> Option<Form<'_>>
     ensures { option_map formed result ≡ transfer_line text.now }
 {
-    let (name, label) = text.split_once(' ')?;
+    let (name, label) = split(text, ' ')?;
     let kind = transfer_of(one_of(name)?)?;
     let label = label.as_bytes();
     if is_label(label) {
@@ -86,6 +86,20 @@ fn statement_of(text: &[u8], at: u32) -> Option<Form<'_>>
     }
 }
 
+#[tactic(auto, unfolding(crate::specs::Forms::form_of))]
+fn read_form(line: &[u8], at: u32) -> Option<Form<'_>>
+    ensures { option_map formed result ≡ form_of line.now at }
+{
+    if line.is_empty() {
+        return Some(Form::Nothing);
+    }
+    if let Some(form) = label_line(line) {
+        return Some(form);
+    }
+    let text = line.strip_prefix(b"  ")?;
+    statement_of(text, at)
+}
+
 /// The form of a line of a source, without its LF, that stands at an address. It takes no memory.
 ///
 /// A line is empty; or a label and `:`; or two spaces, `byte`, a space and the digits of 1 to
@@ -96,12 +110,5 @@ pub fn form_of<'a>(line: &'a [u8], at: u32) -> Option<Form<'a>>
     ensures form { option_map formed result ≡ form_of line.now at }
     ensures valid { IfSome result (λ form. IsTrue (is_form (formed form))) }
 {
-    if line.is_empty() {
-        return Some(Form::Nothing);
-    }
-    if let Some(form) = label_line(line) {
-        return Some(form);
-    }
-    let text = line.strip_prefix(b"  ")?;
-    statement_of(text, at)
+    read_form(line, at)
 }

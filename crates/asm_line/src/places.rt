@@ -14,7 +14,7 @@ use std::alloc::AllocError;
 /// Appends the canonical spelling of a valid instruction. After want of memory `out` is as before.
 fn put_inst(out: &mut Vec<u8>, inst: &Inst) -> Result<(), AllocError>
     requires { IsTrue (valid_of inst.now) }
-    ensures { OnOk result (out.new ≡ out.old ++ canonical inst.now) }
+    ensures { OnOk result (out.new.items ≡ out.old.items ++ canonical inst.now) }
 {
     let mut code = [0; 15];
     let length = encode(inst, &mut code);
@@ -23,6 +23,7 @@ fn put_inst(out: &mut Vec<u8>, inst: &Inst) -> Result<(), AllocError>
 
 /// How many bytes a form gives, at most 64: those of the canonical spelling of its instruction, or of its digits. It depends on no
 /// address.
+#[tactic(auto, unfolding(crate::specs::Forms::size_of_form))]
 pub fn size_of_form(form: &Form) -> u32
     requires { IsTrue (is_form (formed form.now)) }
     ensures size { result ≡ size_of_form (formed form.now) }
@@ -39,9 +40,10 @@ pub fn size_of_form(form: &Form) -> u32
 /// Appends the bytes of a form that stands at an address, where the label that it goes to stands at `to`.
 ///
 /// After want of memory `out` may have a part of the bytes.
+#[tactic(auto, unfolding(crate::specs::Forms::bytes_of_form))]
 pub fn put_form(out: &mut Vec<u8>, form: &Form, at: u32, to: u32) -> Result<(), AllocError>
     requires { IsTrue (is_form (formed form.now)) }
-    ensures { OnOk result (out.new ≡ out.old ++ bytes_of_form (formed form.now) at to) }
+    ensures { OnOk result (out.new.items ≡ out.old.items ++ bytes_of_form (formed form.now) at to) }
 {
     match form {
         Form::Nothing | Form::Label(_) => Ok(()),
