@@ -1,8 +1,7 @@
 -- What a form gives are bytes.
 use Rattle.std.proofs.Common.{◌≡◌, ℕ, zero, suc, ◌+◌, ◌-◌, ◌*◌, ◌/◌, ◌%◌, ◌^◌, ◌<◌, ◌≤◌, ◌&&◌, not, Bool, true, false, cond, leb, ltb, eqb, List, [], ◌∷◌, ◌++◌, Option, Some, None, refl, arith, lit<}
-use Rattle.std.specs.List.{All}
+use Rattle.std.specs.Prelude.{length, slice_index_or}
 use Rattle.std.proofs.lemmas.Bool.{and_parts, and_from, leb-true, ltb-true, lt-ltb}
-use Rattle.br_word.specs.Memory.{AreBytes}
 use Rattle.br_word.specs.declared.types.ShiftOp.{ShiftOp}
 use Rattle.br_word.specs.declared.types.ShiftOp.TheVariants.{Shl, Shr, Sar}
 use Rattle.br_word.specs.declared.types.Width.{Width}
@@ -31,11 +30,10 @@ abbrev small : List ℕ → Bool
 small [] = true
 small (x ∷ xs) = ltb x 256 && small xs
 
-from_small : (xs : List ℕ) → small xs ≡ true → AreBytes xs
-from_small [] h = tt
-from_small (x ∷ xs) h =
-    let p = and_parts (ltb x 256) (small xs) h in
-    (ltb-true x 256 p.0, from_small xs p.1)
+from_small : (xs : List ℕ) (k d : ℕ) → small xs ≡ true → k < length xs → slice_index_or xs k d < 256
+from_small [] k d h l = absurd (omega arith)
+from_small (x ∷ xs) zero d h l = ltb-true x 256 ((and_parts (ltb x 256) (small xs) h).0)
+from_small (x ∷ xs) (suc k) d h l = from_small xs k d ((and_parts (ltb x 256) (small xs) h).1) (omega arith)
 
 joined : (xs ys : List ℕ) → small xs ≡ true → small ys ≡ true → small (xs ++ ys) ≡ true
 joined [] ys h k = k
@@ -56,12 +54,13 @@ low : (n : ℕ) → small (n % 256 ∷ []) ≡ true
 low n = before (n % 256) [] (omega arith) refl
 
 two_small : (n : ℕ) → small (two n) ≡ true
-two_small n = before (n % 256) _ (omega arith) (low (n / 256 ^ 1))
+two_small n = before (n % 256) (n / 256 ^ 1 % 256 ∷ []) (omega arith) (low (n / 256 ^ 1))
 
 four_small : (n : ℕ) → small (four n) ≡ true
 four_small n =
-    before (n % 256) _ (omega arith) (before (n / 256 ^ 1 % 256) _ (omega arith)
-    (before (n / 256 ^ 2 % 256) _ (omega arith) (low (n / 256 ^ 3))))
+    before (n % 256) (n / 256 ^ 1 % 256 ∷ n / 256 ^ 2 % 256 ∷ n / 256 ^ 3 % 256 ∷ []) (omega arith)
+    (before (n / 256 ^ 1 % 256) (n / 256 ^ 2 % 256 ∷ n / 256 ^ 3 % 256 ∷ []) (omega arith)
+    (before (n / 256 ^ 2 % 256) (n / 256 ^ 3 % 256 ∷ []) (omega arith) (low (n / 256 ^ 3))))
 
 imm_small : (w : Width) (n : ℕ) → imm_valid w n ≡ true → small (imm w n) ≡ true
 imm_small B8 n v = before n [] (ltb-true n 256 v) refl
@@ -90,7 +89,7 @@ log_small s =
     below_four (eqb s 1) 0 _ (lit< tt) (below_four (eqb s 2) 1 _ (lit< tt) (below_four (eqb s 4) 2 3 (lit< tt) (lit< tt)))
 
 displacement_small : (r d : ℕ) → small (displacement r d) ≡ true
-displacement_small r d = chosen (eqb d 0 && not (eqb r 5)) [] _ refl (chosen (fits_byte d) (d % 256 ∷ []) (four d) (low d) (four_small d))
+displacement_small r d = chosen (eqb d 0 && not (eqb r 5)) [] (cond (fits_byte d) (d % 256 ∷ []) (four d)) refl (chosen (fits_byte d) (d % 256 ∷ []) (four d) (low d) (four_small d))
 
 index_below : (x : ℕ × ℕ) → index_valid (Some x) ≡ true → x.0 < 8
 index_below x v =
@@ -99,21 +98,25 @@ index_below x v =
 
 based_small : (g r : ℕ) (x : Option (ℕ × ℕ)) (d : ℕ) → g < 8 → r < 8 → index_valid x ≡ true → small (based_bytes g r x d) ≡ true
 based_small g r None d l h v =
-    chosen (eqb r 4) (fields (mode r d) g 4 ∷ fields 0 4 r ∷ displacement r d) (fields (mode r d) g r ∷ displacement r d)
-    (before _ _ (fields_small (mode r d) g 4 (mode_small r d) l (lit< tt)) (before _ _ (fields_small 0 4 r (lit< tt) (lit< tt) h) (displacement_small r d)))
-    (before _ _ (fields_small (mode r d) g r (mode_small r d) l h) (displacement_small r d))
+    let rest = displacement r d in
+    let both = fields 0 4 r ∷ rest in
+    chosen (eqb r 4) (fields (mode r d) g 4 ∷ both) (fields (mode r d) g r ∷ rest)
+    (before (fields (mode r d) g 4) both (fields_small (mode r d) g 4 (mode_small r d) l (lit< tt)) (before (fields 0 4 r) rest (fields_small 0 4 r (lit< tt) (lit< tt) h) (displacement_small r d)))
+    (before (fields (mode r d) g r) rest (fields_small (mode r d) g r (mode_small r d) l h) (displacement_small r d))
 based_small g r (Some x) d l h v =
-    before _ _ (fields_small (mode r d) g 4 (mode_small r d) l (lit< tt))
-    (before _ _ (fields_small (log x.1) x.0 r (log_small x.1) (index_below x v) h) (displacement_small r d))
+    let rest = displacement r d in
+    before (fields (mode r d) g 4) (fields (log x.1) x.0 r ∷ rest) (fields_small (mode r d) g 4 (mode_small r d) l (lit< tt))
+    (before (fields (log x.1) x.0 r) rest (fields_small (log x.1) x.0 r (log_small x.1) (index_below x v) h) (displacement_small r d))
 
 memory_small : (g : ℕ) (b : Option ℕ) (x : Option (ℕ × ℕ)) (d : ℕ) → g < 8 → base_valid b ≡ true → index_valid x ≡ true → small (memory_bytes g b x d) ≡ true
-memory_small g None None d l u v = before _ _ (fields_small 0 g 5 (lit< tt) l (lit< tt)) (four_small d)
+memory_small g None None d l u v = before (fields 0 g 5) (four d) (fields_small 0 g 5 (lit< tt) l (lit< tt)) (four_small d)
 memory_small g None (Some x) d l u v =
-    before _ _ (fields_small 0 g 4 (lit< tt) l (lit< tt)) (before _ _ (fields_small (log x.1) x.0 5 (log_small x.1) (index_below x v) (lit< tt)) (four_small d))
+    before (fields 0 g 4) (fields (log x.1) x.0 5 ∷ four d) (fields_small 0 g 4 (lit< tt) l (lit< tt))
+    (before (fields (log x.1) x.0 5) (four d) (fields_small (log x.1) x.0 5 (log_small x.1) (index_below x v) (lit< tt)) (four_small d))
 memory_small g (Some r) x d l u v = based_small g r x d l (ltb-true r 8 u) v
 
 operand_small : (g : ℕ) (a : Rm) → g < 8 → rm_valid a ≡ true → small (operand_bytes g a) ≡ true
-operand_small g (Reg r) l v = before _ _ (fields_small 3 g r (lit< tt) l (ltb-true r 8 v)) refl
+operand_small g (Reg r) l v = before (fields 3 g r) [] (fields_small 3 g r (lit< tt) l (ltb-true r 8 v)) refl
 operand_small g (Mem a) l v =
     let p = and_parts (base_valid a.base) (index_valid a.index && imm_valid B32 a.disp) v in
     let q = and_parts (index_valid a.index) (imm_valid B32 a.disp) p.1 in
@@ -144,10 +147,10 @@ alu_small k B8 a (src.Imm n) l v =
     long (0x80 ∷ []) k a (n ∷ []) refl l p.0 (imm_small B8 n p.1)
 alu_small k B16 a (src.Imm n) l v =
     let p = and_parts (rm_valid a) (imm_valid B16 n) v in
-    chosen (fits_extended B16 n) _ _ (long (0x66 ∷ 0x83 ∷ []) k a ((n % 256) ∷ []) refl l p.0 (low n)) (long (0x66 ∷ 0x81 ∷ []) k a (two n) refl l p.0 (two_small n))
+    chosen (fits_extended B16 n) (((0x66 ∷ 0x83 ∷ []) ++ operand_bytes k a) ++ ((n % 256) ∷ [])) (((0x66 ∷ 0x81 ∷ []) ++ operand_bytes k a) ++ two n) (long (0x66 ∷ 0x83 ∷ []) k a ((n % 256) ∷ []) refl l p.0 (low n)) (long (0x66 ∷ 0x81 ∷ []) k a (two n) refl l p.0 (two_small n))
 alu_small k B32 a (src.Imm n) l v =
     let p = and_parts (rm_valid a) (imm_valid B32 n) v in
-    chosen (fits_extended B32 n) _ _ (long (0x83 ∷ []) k a ((n % 256) ∷ []) refl l p.0 (low n)) (long (0x81 ∷ []) k a (four n) refl l p.0 (four_small n))
+    chosen (fits_extended B32 n) (((0x83 ∷ []) ++ operand_bytes k a) ++ ((n % 256) ∷ [])) (((0x81 ∷ []) ++ operand_bytes k a) ++ four n) (long (0x83 ∷ []) k a ((n % 256) ∷ []) refl l p.0 (low n)) (long (0x81 ∷ []) k a (four n) refl l p.0 (four_small n))
 
 test_small : (w : Width) (a : Rm) (s : Src) → test_valid w a s ≡ true → small (test_bytes w a s) ≡ true
 test_small w a (src.Rm (Reg r)) v =
@@ -201,7 +204,7 @@ pop_small (Mem a) v = plain (0x8F ∷ []) 0 (Mem a) refl (lit< tt) v
 imul_small : (g : ℕ) (a : Rm) (by : Option ℕ) → g < 8 → rm_valid a ≡ true → small (imul_bytes g a by) ≡ true
 imul_small g a None l v = plain (0x0F ∷ 0xAF ∷ []) g a refl l v
 imul_small g a (Some n) l v =
-    chosen (fits_byte n) _ _ (long (0x6B ∷ []) g a ((n % 256) ∷ []) refl l v (low n)) (long (0x69 ∷ []) g a (four n) refl l v (four_small n))
+    chosen (fits_byte n) (((0x6B ∷ []) ++ operand_bytes g a) ++ ((n % 256) ∷ [])) (((0x69 ∷ []) ++ operand_bytes g a) ++ four n) (long (0x6B ∷ []) g a ((n % 256) ∷ []) refl l v (low n)) (long (0x69 ∷ []) g a (four n) refl l v (four_small n))
 
 shift_reg_small : (op : ShiftOp) → shift_reg op < 8
 shift_reg_small Shl = lit< tt
@@ -210,7 +213,7 @@ shift_reg_small Sar = lit< tt
 
 shift_small : (op : ShiftOp) (w : Width) (a : Rm) (n : Count) → rm_valid a ≡ true → count_valid n ≡ true → small (shift_bytes op w a n) ≡ true
 shift_small op w a (count.Imm n) v u =
-    chosen (eqb n 1) _ _ (plain (pair w 0xD0) (shift_reg op) a (pair_small w 0xD0 (lit< tt)) (shift_reg_small op) v)
+    chosen (eqb n 1) (pair w 0xD0 ++ operand_bytes (shift_reg op) a) ((pair w 0xC0 ++ operand_bytes (shift_reg op) a) ++ (n ∷ [])) (plain (pair w 0xD0) (shift_reg op) a (pair_small w 0xD0 (lit< tt)) (shift_reg_small op) v)
     (long (pair w 0xC0) (shift_reg op) a (n ∷ []) (pair_small w 0xC0 (lit< tt)) (shift_reg_small op) v (imm_small B8 n u))
 shift_small op w a count.Cl v u = plain (pair w 0xD2) (shift_reg op) a (pair_small w 0xD2 (lit< tt)) (shift_reg_small op) v
 
@@ -220,7 +223,7 @@ rotate_reg_small false = lit< tt
 
 rotate_small : (right : Bool) (a : Rm) (n : Count) → rm_valid a ≡ true → count_valid n ≡ true → small (rotate_bytes right a n) ≡ true
 rotate_small right a (count.Imm n) v u =
-    chosen (eqb n 1) _ _ (plain (0xD1 ∷ []) (rotate_reg right) a refl (rotate_reg_small right) v) (long (0xC1 ∷ []) (rotate_reg right) a (n ∷ []) refl (rotate_reg_small right) v (imm_small B8 n u))
+    chosen (eqb n 1) ((0xD1 ∷ []) ++ operand_bytes (rotate_reg right) a) (((0xC1 ∷ []) ++ operand_bytes (rotate_reg right) a) ++ (n ∷ [])) (plain (0xD1 ∷ []) (rotate_reg right) a refl (rotate_reg_small right) v) (long (0xC1 ∷ []) (rotate_reg right) a (n ∷ []) refl (rotate_reg_small right) v (imm_small B8 n u))
 rotate_small right a count.Cl v u = plain (0xD3 ∷ []) (rotate_reg right) a refl (rotate_reg_small right) v
 
 sized_small : (w : Width) (x : List ℕ) → small x ≡ true → small (size w ++ x) ≡ true
@@ -350,4 +353,4 @@ form_small (Stands i) at to h = code_small i h
 form_small (Goes kind name) at to h = code_small (instruction_of kind at to) (transfers_are_valid kind at to ((and_parts (is_transfer kind) (is_label name) h).0))
 
 pub forms_give_bytes : FormsGiveBytes
-forms_give_bytes f at to h = from_small (bytes_of_form f at to) (form_small f at to h)
+forms_give_bytes f at to h = λ k d l. from_small (bytes_of_form f at to) k d (form_small f at to h) l

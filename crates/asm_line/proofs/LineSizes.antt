@@ -1,6 +1,7 @@
 -- How many bytes a line gives.
-use Rattle.std.proofs.Common.{◌≡◌, ℕ, ◌+◌, ◌-◌, ◌*◌, ◌/◌, ◌≤◌, ◌&&◌, Bool, true, false, cond, leb, ltb, eqb, List, [], ◌∷◌, ◌++◌, length, take, drop, Option, Some, None, refl, sym, ap, ◌∙◌, arith, length-append, length-drop}
-use Rattle.std.proofs.lemmas.List.{length-take}
+use Rattle.std.proofs.Common.{◌≡◌, ℕ, ◌+◌, ◌-◌, ◌*◌, ◌/◌, ◌<◌, ◌≤◌, ◌&&◌, Bool, true, false, cond, leb, ltb, eqb, List, [], ◌∷◌, ◌++◌, length, get_or, take, drop, Option, Some, None, refl, sym, ap, ◌∙◌, arith, append_assoc, length-append, length-drop}
+use Rattle.std.proofs.lemmas.List.{append-nil, length-take}
+use Rattle.std.proofs.Math.Seq.{take-length}
 use Rattle.std.specs.Prelude.{codes}
 use Rattle.std.specs.Str.{bytes_eq}
 use Rattle.std.proofs.lemmas.Bool.{and_parts, leb-true}
@@ -17,7 +18,7 @@ use Rattle.asm_inst.proofs.Splits.{split_read}
 use Rattle.asm_inst.proofs.Words.{tested}
 use Rattle.asm_line.specs.declared.transfers.Transfer.{Transfer}
 use Rattle.asm_line.specs.declared.transfers.Transfer.TheVariants.{Jcc, Jmp, Call}
-use Rattle.asm_line.specs.Forms.{Form, Nothing, Label, Bytes, Stands, Goes, behind, before, is_label, are_digits, values, instruction_of, size_of_transfer, transfer_of, label_line, byte_line, transfer_line, instruction_line, statement_of, form_of, size_of_form, bytes_of_form}
+use Rattle.asm_line.specs.Forms.{Form, Nothing, Label, Bytes, Stands, Goes, behind, before, is_label, are_digits, value_of, values, instruction_of, size_of_transfer, transfer_of, label_line, byte_line, transfer_line, instruction_line, statement_of, form_of, size_of_form, bytes_of_form}
 use Rattle.asm_line.specs.Laws.{FormsAreShort, FormsAreSized}
 use Rattle.asm_line.proofs.LineTexts.{holds_any}
 use Rattle.asm_line.proofs.LineForms.{holds_choice}
@@ -87,6 +88,22 @@ unfolding are_digits
 digits_few ds h =
     let p = and_parts (ltb 0 (length ds)) _ h in
     leb-true (length ds) 128 ((and_parts (leb (length ds) 128) _ p.1).0)
+
+-- one byte more is put
+pub put_step : (o n ds w : List ℕ) (x y : ℕ) → 2 ≤ length ds → x ≡ value_of (get_or ds 0 0) → y ≡ value_of (get_or ds 1 0) → n ≡ o ++ ((x * 16 + y) ∷ []) → o ++ values ds ≡ w → n ++ values (take (length ds - 2) (drop 2 ds)) ≡ w
+unfolding values
+put_step o n [] w x y l p q e h = absurd (omega arith)
+put_step o n (a ∷ []) w x y l p q e h = absurd (omega arith)
+put_step o n (a ∷ b ∷ ds) w x y l p q e h =
+    let left : length (a ∷ b ∷ ds) - 2 ≡ length ds = omega arith in
+    let tail : take (length (a ∷ b ∷ ds) - 2) ds ≡ ds = ap (λ k. take k ds) left ∙ take-length ds in
+    (λ i. e i ++ values (tail i)) ∙ append_assoc o ((x * 16 + y) ∷ []) (values ds) ∙ (λ i. o ++ ((p i * 16 + q i) ∷ values ds)) ∙ h
+
+pub put_all : (o ds : List ℕ) → length ds < 2 → o ++ values ds ≡ o
+unfolding values
+put_all o [] l = append-nil o
+put_all o (a ∷ []) l = append-nil o
+put_all o (a ∷ b ∷ ds) l = absurd (omega arith)
 
 -- ---- parts of a line
 

@@ -1,6 +1,6 @@
 //! Bytes by their digits.
 
-ghost use Rattle.std.specs.Prelude.{◌≡◌, ◌++◌, ◌<◌, OnOk};
+ghost use Rattle.std.specs.Prelude.{◌≡◌, ◌++◌, ◌<◌, ◌≤◌, length, IsTrue, OnOk};
 ghost use Rattle.std.specs.List.{list_all};
 ghost use Rattle.asm_line.specs.Forms.{is_digit, value_of, are_digits, values};
 
@@ -42,6 +42,15 @@ pub fn are_digits(digits: &[u8]) -> bool
         && digits.len() <= 2 * BYTE_LIMIT
         && digits.len() % 2 == 0
         && are_hexadecimal(digits)
+}
+
+/// How many bytes digits give.
+pub fn count_bytes(digits: &[u8]) -> u32
+    requires { IsTrue (are_digits digits.now) }
+    ensures count { result ≡ length (values digits.now) }
+    ensures few { result ≤ 64 }
+{
+    (digits.len() / 2) as u32
 }
 
 /// Appends the bytes of digits. After want of memory a part of them may stand in `out`.

@@ -72,6 +72,16 @@ fn instruction_line(text: &str, at: u32) -> Option<Form<'_>>
     Some(Form::Stands(inst))
 }
 
+fn text_line(text: &[u8], at: u32) -> Option<Form<'_>>
+    ensures { option_map formed result ≡ or_else (transfer_line text.now) (instruction_line text.now at) }
+{
+    match str::from_utf8(text) {
+        Ok(text) => instruction_line(text, at),
+        // labels and the texts of instructions are ASCII
+        Err(_) => None,
+    }
+}
+
 /// What stands behind the two spaces of a line.
 fn statement_of(text: &[u8], at: u32) -> Option<Form<'_>>
     ensures { option_map formed result ≡ statement_of text.now at }
@@ -79,11 +89,7 @@ fn statement_of(text: &[u8], at: u32) -> Option<Form<'_>>
     if let Some(form) = byte_line(text) {
         return Some(form);
     }
-    match str::from_utf8(text) {
-        Ok(text) => instruction_line(text, at),
-        // each text of an instruction is ASCII
-        Err(_) => None,
-    }
+    text_line(text, at)
 }
 
 #[tactic(auto, unfolding(crate::specs::Forms::form_of))]

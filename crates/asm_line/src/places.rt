@@ -4,7 +4,7 @@ ghost use Rattle.std.specs.Prelude.{◌≡◌, ◌++◌, ◌≤◌, OnOk, IsTrue
 ghost use Rattle.ia_inst.specs.Canonical.{valid_of, canonical};
 ghost use Rattle.asm_line.specs.Forms.{is_form, formed, size_of_form, bytes_of_form};
 
-use crate::digits::put_digits;
+use crate::digits::{count_bytes, put_digits};
 use crate::lines::Form;
 use crate::transfers::{instruction_of, size_of_transfer};
 use ia_encode::encode;
@@ -31,7 +31,7 @@ pub fn size_of_form(form: &Form) -> u32
 {
     match form {
         Form::Nothing | Form::Label(_) => 0,
-        Form::Bytes(digits) => (digits.len() / 2) as u32,
+        Form::Bytes(digits) => count_bytes(digits),
         Form::Stands(inst) => u32::from(encode(inst, &mut [0; 15])),
         Form::Goes(kind, _) => size_of_transfer(*kind),
     }
