@@ -1,6 +1,5 @@
 use crate::{Form, Transfer, form_of, put_form, size_of_form};
 use std::alloc::AllocError;
-use std::process::Abort;
 
 /// An address, and that of the label that is gone to.
 const AT: u32 = 0x0804_8054;
@@ -78,15 +77,14 @@ const NONE: [&str; 46] = [
     "  mov eax, a",
 ];
 
-/// The bytes that a line gives, where it has a form.
-fn bytes_of(rt: &HostRuntime, line: &[u8]) -> Result<Option<Vec<u8>>, AllocError> {
+/// The bytes that a line gives, and how many its form says, where it has one.
+fn bytes_of(rt: &HostRuntime, line: &[u8]) -> Result<Option<(Vec<u8>, u32)>, AllocError> {
     let Some(form) = form_of(line, AT) else {
         return Ok(None);
     };
     let mut out = Vec::new(rt.alloc());
     put_form(&mut out, &form, AT, AT)?;
-    assert_eq!(rt; out.len(), size_of_form(&form) as usize);
-    Ok(Some(out))
+    Ok(Some((out, size_of_form(&form))))
 }
 
 /// So many times a character, with text before and behind it.
@@ -102,8 +100,9 @@ fn repeated(rt: &HostRuntime, front: &str, c: u8, count: usize, behind: &str) ->
 #[test]
 fn gives_the_bytes_of_each_form(rt: HostRuntime) -> Result<(), AllocError> {
     for (line, bytes) in ROWS {
-        let found = bytes_of(&rt, line.as_bytes())?.expect(&rt, "a form");
-        assert_eq!(rt; found.as_slice(), bytes);
+        let (found, size) = bytes_of(&rt, line.as_bytes())?.expect(&rt, "a form");
+        assert_eq!(rt; found.as_slice(), bytes, "{line}");
+        assert_eq!(rt; size as usize, bytes.len(), "{line}");
     }
     Ok(())
 }
