@@ -1,9 +1,8 @@
 -- The texts of instructions are ASCII.
-use Rattle.std.proofs.Common.{◌≡◌, ℕ, zero, suc, ◌+◌, ◌%◌, ◌^◌, ◌<◌, ◌≤◌, ◌&&◌, ◌||◌, not, Bool, true, false, cond, leb, ltb, eqb, List, [], ◌∷◌, ◌++◌, Option, Some, None, refl, ap, ◌∙◌, arith, inl, inr}
+use Rattle.std.proofs.Common.{◌≡◌, ℕ, zero, suc, ◌+◌, ◌%◌, ◌^◌, ◌<◌, ◌≤◌, ◌&&◌, not, Bool, true, false, cond, leb, ltb, eqb, List, [], ◌∷◌, ◌++◌, Option, Some, None, refl, arith, inl, inr}
 use Rattle.std.specs.Prelude.{codes, length, slice_index}
-use Rattle.std.specs.Str.{IsAscii}
 use Rattle.std.specs.Fmt.{decimal, digits}
-use Rattle.std.proofs.lemmas.Bool.{and_parts, and_from, or_cases, leb-true, ltb-true, lt-ltb, agree_below, agree_below_at}
+use Rattle.std.proofs.lemmas.Bool.{and_parts, and_from, or_cases, leb-true, ltb-true, lt-ltb, agree_below_at}
 use Rattle.std.proofs.lemmas.Str.Ascii.{IsAscii-nil}
 use Rattle.br_word.specs.declared.types.ShiftOp.{ShiftOp}
 use Rattle.br_word.specs.declared.types.ShiftOp.TheVariants.{Shl, Shr, Sar}
@@ -21,7 +20,7 @@ use Rattle.ia_inst.specs.declared.inst.Inst.TheVariants as inst
 use Rattle.ia_inst.specs.Canonical.{imm_valid, base_valid, index_valid, address_valid, rm_valid, count_valid, move_valid, is_long, widens, valid_of, canonical}
 use Rattle.ia_text.specs.Names.{register_name, alu_name, multiply_name, shift_name, rotate_name, extend_name, condition_name}
 use Rattle.ia_text.specs.Operands.{number_text, displacement_text, index_text, sum_text, address_text, place_text, source_text, count_text}
-use Rattle.ia_text.specs.Text.{one_operand, two_operands, imul_text, return_text, target_text, string_text, text_of}
+use Rattle.ia_text.specs.Text.{one_operand, two_operands, target_text, string_text, text_of}
 use Rattle.asm_inst.specs.Names.{is_plain, plain}
 use Rattle.asm_inst.specs.Shapes.{TextsAreAscii}
 use Rattle.asm_inst.proofs.NamesRead.{register_plain}

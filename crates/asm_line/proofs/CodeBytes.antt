@@ -6,7 +6,6 @@ use Rattle.br_word.specs.declared.types.ShiftOp.{ShiftOp}
 use Rattle.br_word.specs.declared.types.ShiftOp.TheVariants.{Shl, Shr, Sar}
 use Rattle.br_word.specs.declared.types.Width.{Width}
 use Rattle.br_word.specs.declared.types.Width.TheVariants.{B8, B16, B32}
-use Rattle.ia_inst.specs.declared.inst.Addr.{Addr}
 use Rattle.ia_inst.specs.declared.inst.Rm.{Rm}
 use Rattle.ia_inst.specs.declared.inst.Rm.TheVariants.{Reg, Mem}
 use Rattle.ia_inst.specs.declared.inst.Src.{Src}
@@ -18,7 +17,6 @@ use Rattle.ia_inst.specs.declared.inst.Inst.TheVariants as inst
 use Rattle.ia_inst.specs.Operands.{two, four, fields}
 use Rattle.ia_inst.specs.Spells.{size, pair, imm}
 use Rattle.ia_inst.specs.Canonical.{imm_valid, base_valid, index_valid, address_valid, rm_valid, move_valid, test_valid, source_valid, count_valid, is_long, widens, valid_of, fits_byte, mode, displacement, log, based_bytes, memory_bytes, operand_bytes, fits_extended, alu_bytes, test_bytes, mov_bytes, step_bytes, push_bytes, pop_bytes, imul_bytes, shift_reg, shift_bytes, rotate_reg, rotate_bytes, extend_bytes, string_bytes, canonical}
-use Rattle.asm_line.specs.declared.transfers.Transfer.{Transfer}
 use Rattle.asm_line.specs.declared.transfers.Transfer.TheVariants.{Jcc, Jmp, Call}
 use Rattle.asm_inst.specs.Operands.{digit_of}
 use Rattle.asm_inst.specs.Shapes.{distance}

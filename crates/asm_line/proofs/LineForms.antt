@@ -1,11 +1,8 @@
 -- The form of a line can be written.
-use Rattle.std.proofs.Common.{◌≡◌, ℕ, ◌&&◌, Bool, true, false, cond, ltb, eqb, List, length, take, drop, Option, Some, None, refl, sym, IfSome}
+use Rattle.std.proofs.Common.{◌≡◌, ℕ, Bool, true, false, cond, eqb, List, length, Option, Some, None, refl, sym, IfSome}
 use Rattle.std.specs.Prelude.{codes, IsTrue}
 use Rattle.std.specs.Option.{option_map}
-use Rattle.std.specs.Str.{bytes_eq}
 use Rattle.std.proofs.lemmas.Bool.{and_from}
-use Rattle.ia_inst.specs.Canonical.{valid_of}
-use Rattle.ia_inst.specs.Reading.{◌>>=◌}
 use Rattle.asm_inst.specs.declared.mnemonics.One.{One}
 use Rattle.asm_inst.specs.declared.mnemonics.One.TheVariants as one
 use Rattle.asm_inst.specs.Names.{split_at}
@@ -13,7 +10,6 @@ use Rattle.asm_inst.specs.Shapes.{one_of, one_ok, read_of}
 use Rattle.asm_inst.proofs.Options.{Holds, holds_none, holds_some, holds_bind, holds_or, holds_if}
 use Rattle.asm_inst.proofs.Reading.{read_sound}
 use Rattle.asm_inst.proofs.Words.{one_ok_read}
-use Rattle.asm_line.specs.declared.transfers.Transfer.{Transfer}
 use Rattle.asm_line.specs.declared.transfers.Transfer.TheVariants.{Jcc, Jmp, Call}
 use Rattle.asm_line.specs.declared.lines.Form as read
 use Rattle.asm_line.specs.Forms.{Form, formed, Nothing, Label, Bytes, Stands, Goes, behind, before, is_label, are_digits, transfer_of, is_transfer, is_form, label_line, byte_line, transfer_line, instruction_line, statement_of, form_of}

@@ -1,17 +1,14 @@
 -- How many bytes a line gives.
-use Rattle.std.proofs.Common.{◌≡◌, ℕ, ◌+◌, ◌-◌, ◌*◌, ◌/◌, ◌<◌, ◌≤◌, ◌&&◌, Bool, true, false, cond, leb, ltb, eqb, List, [], ◌∷◌, ◌++◌, length, get_or, take, drop, Option, Some, None, refl, sym, ap, ◌∙◌, arith, append_assoc, length-append, length-drop}
+use Rattle.std.proofs.Common.{◌≡◌, ℕ, ◌+◌, ◌-◌, ◌*◌, ◌/◌, ◌<◌, ◌≤◌, true, leb, ltb, eqb, List, [], ◌∷◌, ◌++◌, length, get_or, take, drop, Some, refl, ap, ◌∙◌, arith, append_assoc, length-append, length-drop}
 use Rattle.std.proofs.lemmas.List.{append-nil, length-take}
 use Rattle.std.proofs.Math.Seq.{take-length}
 use Rattle.std.specs.Prelude.{codes}
 use Rattle.std.specs.Str.{bytes_eq}
 use Rattle.std.proofs.lemmas.Bool.{and_parts, leb-true}
 use Rattle.std.proofs.lemmas.Slice.Eq.{bytes_eq-Decides}
-use Rattle.ia_inst.specs.declared.inst.Inst.{Inst}
-use Rattle.ia_inst.specs.Canonical.{canonical, valid_of}
-use Rattle.ia_inst.specs.Reading.{◌>>=◌}
+use Rattle.ia_inst.specs.Canonical.{canonical}
 use Rattle.ia_inst.proofs.Written.{canonical_short}
 use Rattle.asm_inst.specs.Names.{split_at}
-use Rattle.asm_inst.specs.Operands.{or_else}
 use Rattle.asm_inst.specs.Shapes.{WHOLE, STRINGS, ONES, SETS, JUMPS, ALUS, TWOS, MOVES, whole_of, one_of, two_of, one_inst, two_inst, after_space, one_operand_of, two_operands_of, operands_of, raw_of, checked, read_of}
 use Rattle.asm_inst.proofs.Options.{Holds, holds_some, holds_more, holds_bind, holds_or, holds_if}
 use Rattle.asm_inst.proofs.Splits.{split_read}

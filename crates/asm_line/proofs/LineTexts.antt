@@ -1,14 +1,12 @@
 -- Each form of a line is text.
-use Rattle.std.proofs.Common.{◌≡◌, ℕ, ◌≤◌, ◌&&◌, not, Bool, true, false, cond, leb, ltb, eqb, List, [], ◌∷◌, ◌++◌, length, Option, Some, None, refl, sym, subst, ◌∙◌, arith, inl, inr}
+use Rattle.std.proofs.Common.{◌≡◌, ℕ, ◌&&◌, not, Bool, true, false, cond, leb, ltb, eqb, List, [], ◌∷◌, length, Option, Some, None, refl, sym, subst, ◌∙◌}
 use Rattle.std.specs.List.{list_all}
 use Rattle.std.specs.Option.{is_some}
 use Rattle.std.specs.Str.{IsUtf8}
-use Rattle.std.proofs.lemmas.Bool.{and_parts, and_from, cases_Bool, eqb-true}
+use Rattle.std.proofs.lemmas.Bool.{and_parts, and_from, eqb-true}
 use Rattle.std.proofs.lemmas.Str.{IsUtf8-from_ascii}
-use Rattle.br_word.specs.declared.types.Width.{Width}
 use Rattle.ia_inst.specs.declared.inst.Inst.{Inst}
 use Rattle.ia_inst.specs.Canonical.{canonical}
-use Rattle.ia_inst.specs.Reading.{◌>>=◌}
 use Rattle.ia_text.specs.Names.{register_name}
 use Rattle.ia_text.specs.Text.{text_of}
 use Rattle.asm_inst.specs.Names.{is_plain, split_at}
@@ -16,13 +14,12 @@ use Rattle.asm_inst.specs.Operands.{any_register, or_else}
 use Rattle.asm_inst.specs.Shapes.{one_of, read_of}
 use Rattle.asm_inst.proofs.AsciiTexts.{ascii, from_ascii, ascii_append, plain_ascii, plain_byte, texts_are_ascii}
 use Rattle.asm_inst.proofs.NamesRead.{register_plain}
-use Rattle.asm_inst.proofs.Options.{Holds, holds_some, holds_bind, holds_or, holds_if, stops, second}
+use Rattle.asm_inst.proofs.Options.{Holds, holds_some, holds_bind, holds_if, stops, second}
 use Rattle.asm_inst.proofs.Places.{any_register_read}
 use Rattle.asm_inst.proofs.Reading.{read_sound}
 use Rattle.asm_inst.proofs.Splits.{split_read}
 use Rattle.asm_inst.proofs.Words.{one_plain_read}
-use Rattle.asm_line.specs.declared.transfers.Transfer.{Transfer}
-use Rattle.asm_line.specs.Forms.{Form, Goes, is_name_byte, opens_name, is_register, is_label, transfer_of, transfer_line, instruction_line}
+use Rattle.asm_line.specs.Forms.{Goes, is_name_byte, opens_name, is_register, is_label, transfer_of, transfer_line, instruction_line}
 
 -- of whatever was read, nothing
 pub holds_any : {A : Type 0} (o : Option A) → Holds (λ a. Unit {0}) o

@@ -88,7 +88,13 @@ fn bytes_of(rt: &HostRuntime, line: &[u8]) -> Result<Option<(Vec<u8>, u32)>, All
 }
 
 /// So many times a character, with text before and behind it.
-fn repeated(rt: &HostRuntime, front: &str, c: u8, count: usize, behind: &str) -> Result<Vec<u8>, AllocError> {
+fn repeated(
+    rt: &HostRuntime,
+    front: &str,
+    c: u8,
+    count: usize,
+    behind: &str,
+) -> Result<Vec<u8>, AllocError> {
     let mut line = front.as_bytes().to_vec(rt.alloc())?;
     for _ in 0..count {
         line.push(c)?;
