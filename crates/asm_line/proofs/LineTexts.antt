@@ -1,9 +1,9 @@
 -- Each form of a line is text.
-use Rattle.std.proofs.Common.{◌≡◌, ℕ, ◌&&◌, not, Bool, true, false, cond, leb, ltb, eqb, List, [], ◌∷◌, length, Option, Some, None, refl, sym, subst, ◌∙◌}
+use Rattle.std.proofs.Common.{◌≡◌, ℕ, ◌&&◌, not, true, false, leb, ltb, eqb, List, [], ◌∷◌, length, Option, Some, None, refl, sym, subst, ◌∙◌, inl, inr}
 use Rattle.std.specs.List.{list_all}
 use Rattle.std.specs.Option.{is_some}
 use Rattle.std.specs.Str.{IsUtf8}
-use Rattle.std.proofs.lemmas.Bool.{and_parts, and_from, eqb-true}
+use Rattle.std.proofs.lemmas.Bool.{and_parts, and_from, or_cases, eqb-true}
 use Rattle.std.proofs.lemmas.Str.{IsUtf8-from_ascii}
 use Rattle.ia_inst.specs.declared.inst.Inst.{Inst}
 use Rattle.ia_inst.specs.Canonical.{canonical}
@@ -51,12 +51,11 @@ no_register s n = some_is (any_register s) (none_of (any_register s) (λ r e. n 
 
 -- ---- labels
 
-name_by : (x : ℕ) (b : Bool) → eqb x 95 ≡ b → cond b true (is_plain x) ≡ true → ltb x 128 ≡ true
-name_by x true e h = subst (λ (y : ℕ). ltb y 128 ≡ true) (sym (eqb-true x 95 e)) refl
-name_by x false e h = plain_byte x h
-
 name_ascii : (x : ℕ) → is_name_byte x ≡ true → ltb x 128 ≡ true
-name_ascii x h = name_by x (eqb x 95) refl h
+name_ascii x h = elim (or_cases (is_plain x) (eqb x 95) h) [
+  | inl p ↦ plain_byte x p
+  | inr e ↦ subst (λ (y : ℕ). ltb y 128 ≡ true) (sym (eqb-true x 95 e)) refl
+]
 
 names_ascii : (s : List ℕ) → list_all is_name_byte s ≡ true → ascii s ≡ true
 names_ascii [] h = refl

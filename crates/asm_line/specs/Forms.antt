@@ -1,5 +1,5 @@
 -- What a line of a source is, and the bytes that it gives.
-use Rattle.std.specs.Prelude.{ℕ, ◌+◌, ◌-◌, ◌*◌, ◌%◌, ◌==◌, ◌&&◌, not, is_some, nat_eq, nat_le, nat_lt, Bool, true, false, List, [], ◌∷◌, length, take, drop, codes, Option, Some, None, if◌then◌else◌}
+use Rattle.std.specs.Prelude.{ℕ, ◌+◌, ◌-◌, ◌*◌, ◌%◌, ◌==◌, ◌&&◌, ◌||◌, not, is_some, nat_eq, nat_le, nat_lt, Bool, true, false, List, [], ◌∷◌, length, take, drop, codes, Option, Some, None, if◌then◌else◌}
 use Rattle.std.specs.List.{list_all}
 use Rattle.std.specs.Str.{bytes_eq}
 use Rattle.ia_inst.specs.declared.inst.Inst.{Inst}
@@ -43,7 +43,7 @@ is_decimal x = nat_le 48 x && nat_le x 57
 
 -- a digit, a lower-case letter or _
 abbrev pub is_name_byte : ℕ → Bool
-is_name_byte x = if x == 95 then true else is_plain x
+is_name_byte x = is_plain x || (x == 95)
 
 -- it has a first byte, and that is no digit
 abbrev pub opens_name : List ℕ → Bool

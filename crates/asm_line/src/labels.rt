@@ -15,7 +15,7 @@ pub const LABEL_LIMIT: usize = 64;
 fn is_name_byte(byte: u8) -> bool
     ensures { result ≡ is_name_byte byte }
 {
-    byte == b'_' || matches!(byte, b'0'..=b'9' | b'a'..=b'z')
+    matches!(byte, b'0'..=b'9' | b'a'..=b'z') || byte == b'_'
 }
 
 /// Whether there is a first byte, and that is no digit.
