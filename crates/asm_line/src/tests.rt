@@ -1,4 +1,4 @@
-use crate::{Form, Transfer, form_of, put_form, size_of_form};
+use crate::{Form, Transfer, form_of, is_label, put_form, size_of_form};
 use std::alloc::AllocError;
 
 /// An address, and that of the label that is gone to.
@@ -134,6 +134,16 @@ fn keeps_the_limits_of_a_line(rt: HostRuntime) -> Result<(), AllocError> {
     let bytes = repeated(&rt, "  byte ", b'0', 130, "")?;
     assert!(rt; form_of(&bytes, AT).is_none());
     Ok(())
+}
+
+#[test]
+fn tells_labels(rt: HostRuntime) {
+    for label in ["a", "_", "z9", "eaxx", "e", "word", "mov"] {
+        assert!(rt; is_label(label.as_bytes()), "{label}");
+    }
+    for other in ["", "0a", "esp", "di", "bh", "a b", "a.b"] {
+        assert!(rt; !is_label(other.as_bytes()), "{other}");
+    }
 }
 
 #[test]
