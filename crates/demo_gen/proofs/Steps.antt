@@ -1,8 +1,9 @@
 -- One call and one function more, and the parts of the file together.
 use Rattle.std.proofs.Common.{◌≡◌, ℕ, zero, suc, ◌+◌, ◌-◌, ◌*◌, ◌%◌, ◌^◌, ◌<◌, List, [], ◌∷◌, ◌++◌, refl, sym, ap, ◌∙◌, subst, arith, append_assoc, append-nil}
 use Rattle.br_word.specs.Memory.{bytes_of}
-use Rattle.elf_write.specs.File.{word, file_header}
-use Rattle.demo_gen.specs.Demonstration.{demo_entry, demo_header, demo_length, next_number, call_code, calls_code, write_code, exit_code, function_code, functions_code, demo_code, demo_file}
+use Rattle.elf_write.specs.File.{word}
+use Rattle.elf_flat.specs.Flat.{headed}
+use Rattle.demo_gen.specs.Demonstration.{demo_length, next_number, call_code, calls_code, write_code, exit_code, function_code, functions_code, demo_code, demo_file}
 
 pub calls_step : (n i : ℕ) (out new whole : List ℕ) → i < n → out ++ calls_code n i (n - i) ≡ whole → new ≡ (out ++ (0xE8 ∷ [])) ++ word (27 + 5 * n + 6 * i) → new ++ calls_code n (i + 1) (n - (i + 1)) ≡ whole
 calls_step n i out new whole l inv e =
@@ -23,14 +24,14 @@ functions_step n x k out new whole l inv e =
     ap (λ y. new ++ functions_code y (n - (k + 1))) y ∙ ap (λ ls. ls ++ rest) (e ∙ ap (λ y. out ++ function_code y) y) ∙ append_assoc out (function_code (next_number x)) rest ∙ sym (ap (λ m. out ++ functions_code x m) z) ∙ inv
 
 -- what stands behind a header
-header_then : (length : ℕ) (rest : List ℕ) → file_header 1 demo_entry (demo_header length) ++ rest ≡ file_header 1 demo_entry (demo_header length ++ rest)
+header_then : (size : ℕ) (rest : List ℕ) → headed size [] ++ rest ≡ headed size rest
 unfolding bytes_of
-header_then length rest = refl
+header_then size rest = refl
 
-pub all_parts : (count : ℕ) (o1 o2 o3 o4 o5 o6 : List ℕ) → o1 ≡ [] ++ file_header 1 demo_entry (demo_header (demo_length count)) → o2 ≡ o1 ++ (0xB8 ∷ []) → o3 ≡ o2 ++ word count → o4 ≡ o3 ++ calls_code count 0 count → o5 ≡ o4 ++ (write_code ++ exit_code) → o6 ≡ o5 ++ functions_code count count → o6 ≡ demo_file count
+pub all_parts : (count : ℕ) (o1 o2 o3 o4 o5 o6 : List ℕ) → o1 ≡ [] ++ headed (demo_length count) [] → o2 ≡ o1 ++ (0xB8 ∷ []) → o3 ≡ o2 ++ word count → o4 ≡ o3 ++ calls_code count 0 count → o5 ≡ o4 ++ (write_code ++ exit_code) → o6 ≡ o5 ++ functions_code count count → o6 ≡ demo_file count
 unfolding demo_file
 all_parts count o1 o2 o3 o4 o5 o6 e1 e2 e3 e4 e5 e6 =
-    let h : List ℕ = file_header 1 demo_entry (demo_header (demo_length count)) in
+    let h : List ℕ = headed (demo_length count) [] in
     let all : o6 ≡ (((((h ++ (0xB8 ∷ [])) ++ word count) ++ calls_code count 0 count) ++ (write_code ++ exit_code)) ++ functions_code count count) = cc in
     let flat : (((((h ++ (0xB8 ∷ [])) ++ word count) ++ calls_code count 0 count) ++ (write_code ++ exit_code)) ++ functions_code count count) ≡ h ++ demo_code count = simp (append_assoc) in
     all ∙ flat ∙ header_then (demo_length count) (demo_code count)

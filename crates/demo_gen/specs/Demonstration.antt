@@ -1,27 +1,12 @@
--- The demonstration: a program that calls functions, each of which changes eax, writes eax and ends (ELF header, program header; SDM
--- volume 2, MOV, CALL, PUSH, INT, ADD, Jcc, NOT, RET).
+-- The demonstration: a program that calls functions, each of which changes eax, writes eax and ends (SDM volume 2, MOV, CALL, PUSH, INT,
+-- ADD, Jcc, NOT, RET).
 use Rattle.std.specs.Prelude.{ℕ, zero, suc, ◌+◌, ◌*◌, ◌%◌, ◌^◌, List, [], ◌∷◌, ◌++◌}
-use Rattle.elf_write.specs.File.{word, file_header}
-
--- ---- headers
-
--- where the file lies in memory, and where it begins to run: behind its headers
-abbrev pub demo_start : ℕ
-demo_start = 0x08048000
-
-abbrev pub demo_entry : ℕ
-demo_entry = 0x08048054
+use Rattle.elf_write.specs.File.{word}
+use Rattle.elf_flat.specs.Flat.{headed}
 
 -- how long the file is, by the number of its functions
 abbrev pub demo_length : ℕ → ℕ
 demo_length count = 121 + 16 * count
-
--- one loaded segment, read and executed, which is the whole file
-abbrev pub demo_header : ℕ → List ℕ
-demo_header length =
-    word 1 ++ (word 0 ++ (word demo_start ++ (word demo_start ++ (word length ++ (word length ++ (word 5 ++ word 4096))))))
-
--- ---- code
 
 -- the number that function i adds comes from the one before it, and the first from the number of functions
 abbrev pub next_number : ℕ → ℕ
@@ -57,6 +42,6 @@ abbrev pub demo_code : ℕ → List ℕ
 demo_code count =
     0xB8 ∷ (word count ++ (calls_code count 0 count ++ (write_code ++ (exit_code ++ functions_code count count))))
 
--- the file with so many functions
+-- the file with so many functions: its headers, and the code behind them
 unfoldable pub demo_file : ℕ → List ℕ
-demo_file count = file_header 1 demo_entry (demo_header (demo_length count) ++ demo_code count)
+demo_file count = headed (demo_length count) (demo_code count)

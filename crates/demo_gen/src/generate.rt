@@ -1,16 +1,14 @@
 //! Generates the demonstration.
 ghost use Rattle.std.specs.Prelude.{◌≡◌, ℕ, suc, ◌+◌, ◌*◌, ◌<◌, ◌≤◌, ◌++◌, IfOk, OnOk};
-ghost use Rattle.elf_write.specs.File.{word, file_header};
-ghost use Rattle.demo_gen.specs.Demonstration.{demo_entry, demo_header, demo_length, next_number, call_code, calls_code, write_code, exit_code, function_code, functions_code, demo_code, demo_file};
+ghost use Rattle.elf_write.specs.File.{word};
+ghost use Rattle.demo_gen.specs.Demonstration.{next_number, call_code, calls_code, write_code, exit_code, function_code, functions_code, demo_code, demo_file};
 
 use byteorder::{ByteOrder, LittleEndian};
+use elf_flat::flat_headers;
 use std::alloc::{AllocError, Global};
 
 /// The most functions that a demonstration has.
 pub const MAX_FUNCTIONS: u32 = 1000;
-
-/// Where the file lies in memory.
-const START: u32 = 0x0804_8000;
 
 /// Appends a 32-bit number, the lowest byte first.
 #[tactic(auto, unfolding(br_word::specs::Memory::bytes_of))]
@@ -20,24 +18,6 @@ fn push_word(out: &mut Vec<u8>, value: u32) -> Result<(), AllocError>
     let mut bytes = [0; 4];
     LittleEndian::write_u32(&mut bytes, value);
     out.extend_from_slice(&bytes)
-}
-
-/// The ELF header and the program header of a file of this length.
-#[tactic(auto, unfolding(br_word::specs::Memory::bytes_of))]
-fn push_headers(out: &mut Vec<u8>, length: u32) -> Result<(), AllocError>
-    ensures { OnOk result (out.new.items ≡ out.old.items ++ file_header 1 demo_entry (demo_header length)) }
-{
-    out.extend_from_slice(&[
-        0x7F, 0x45, 0x4C, 0x46, 1, 1, 1, 0, 0, 0, 0, 0, 0, 0, 0, 0, 2, 0, 3, 0, 1, 0, 0, 0, 0x54,
-        0x80, 0x04, 0x08, 52, 0, 0, 0, 0, 0, 0, 0, 0, 0, 0, 0, 52, 0, 32, 0, 1, 0, 0, 0, 0, 0, 0,
-        0, 1, 0, 0, 0, 0, 0, 0, 0,
-    ])?;
-    push_word(out, START)?;
-    push_word(out, START)?;
-    push_word(out, length)?;
-    push_word(out, length)?;
-    push_word(out, 5)?;
-    push_word(out, 4096)
 }
 
 /// The calls of so many functions.
@@ -95,7 +75,7 @@ pub fn demo_exe(alloc: Global, count: u32) -> Result<Vec<u8>, AllocError>
 {
     let length = 121 + 16 * count;
     let mut out = Vec::with_capacity(alloc, length as usize)?;
-    push_headers(&mut out, length)?;
+    out.extend_from_slice(&flat_headers(length))?;
     out.push(0xB8)?;
     push_word(&mut out, count)?;
     push_calls(&mut out, count)?;

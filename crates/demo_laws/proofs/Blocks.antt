@@ -15,7 +15,8 @@ use Rattle.block_cut.specs.declared.ends.End.{End}
 use Rattle.block_cut.specs.declared.ends.End.TheVariants.{Transfer, Island, BeforeIsland}
 use Rattle.block_cut.specs.Places.{Placed, found_at}
 use Rattle.block_cut.specs.Blocks.{BasicBlock, size_of, last_of, StandFrom, EndWith, EndsSo, kind_found, block_of, is_followed, follow_of, EachHasOneBlock}
-use Rattle.demo_gen.specs.Demonstration.{demo_start, demo_entry, demo_length}
+use Rattle.elf_flat.specs.Flat.{flat_start, flat_entry}
+use Rattle.demo_gen.specs.Demonstration.{demo_length}
 use Rattle.demo_laws.specs.Accepted.{demo_of}
 use Rattle.demo_laws.specs.Sites.{placed, call_site, write_site, exit_site, function_site, number_added, HasDemoSites}
 use Rattle.demo_laws.specs.Runs.{second_site, is_negative}
@@ -24,7 +25,7 @@ use Rattle.demo_laws.proofs.Edges.{Made, calls, jumps, returns}
 
 -- a block of the demonstration, and its one known exit
 pub data Here (count : ℕ) : ℕ → ℕ → Type 0 where
-  entry : Here count demo_entry (function_site count 0)
+  entry : Here count flat_entry (function_site count 0)
   call : (i : ℕ) → 0 < i → i < count → Here count (call_site i) (function_site count i)
   write : Here count (write_site count) (write_site count + 18)
   written : Here count (write_site count + 18) (exit_site count)
@@ -43,9 +44,9 @@ pub record Fact (count start to : ℕ) : Type 0 where
   pub short : length block.insts ≤ 5
   pub way : Way count start to block
 
-pub in_code : (count at : ℕ) → demo_start ≤ at → at < demo_start + demo_length count → is_exec at (demo_of count).segments ≡ true
+pub in_code : (count at : ℕ) → flat_start ≤ at → at < flat_start + demo_length count → is_exec at (demo_of count).segments ≡ true
 in_code count at low high =
-    ap (λ t. (t && nat_lt at (demo_start + demo_length count)) || false) (le-leb demo_start at low) ∙ ap (λ t. t || false) (lt-ltb at (demo_start + demo_length count) high)
+    ap (λ t. (t && nat_lt at (flat_start + demo_length count)) || false) (le-leb flat_start at low) ∙ ap (λ t. t || false) (lt-ltb at (flat_start + demo_length count) high)
 
 module _ (one : EachHasOneBlock) (count : ℕ) (some : 1 ≤ count) (few : count ≤ 1000) (sites : HasDemoSites count) where
   transfers : (start to : ℕ) (is : List Placed) → StandFrom (demo_of count) start is → EndWith kinds.Transfer is → length is ≤ 5 → Made count (last_of start is) to → Fact count start to
@@ -53,7 +54,7 @@ module _ (one : EachHasOneBlock) (count : ℕ) (some : 1 ≤ count) (few : count
       let b : BasicBlock = record { insts = is; end = Transfer } in
       record { block = b; is = (one (demo_of count) start b).0 (record { stand = st; ends = (e, omega (arith, l)) }); short = l; way = inl (refl, m) }
 
-  followed : (start to v : ℕ) (is : List Placed) (end : End) → StandFrom (demo_of count) start is → EndsSo (demo_of count) (start + size_of is) is end → is_followed end ≡ true → length is ≤ 5 → start + size_of is ≡ to → demo_start ≤ to → to < demo_start + demo_length count → Here count to v → Fact count start to
+  followed : (start to v : ℕ) (is : List Placed) (end : End) → StandFrom (demo_of count) start is → EndsSo (demo_of count) (start + size_of is) is end → is_followed end ≡ true → length is ≤ 5 → start + size_of is ≡ to → flat_start ≤ to → to < flat_start + demo_length count → Here count to v → Fact count start to
   followed start to v is end st e f l n low high h =
       let b : BasicBlock = record { insts = is; end = end } in
       record { block = b; is = (one (demo_of count) start b).0 (record { stand = st; ends = e }); short = l; way = inr (f, n, in_code count to low high, (v, h)) }
@@ -61,9 +62,9 @@ module _ (one : EachHasOneBlock) (count : ℕ) (some : 1 ≤ count) (few : count
   at : (a b n : ℕ) (i : Inst) → a ≡ b → found_at (demo_of count) b ≡ There i n → found_at (demo_of count) a ≡ There i n
   at a b n i e f = ap (found_at (demo_of count)) e ∙ f
 
-  fact_entry : Fact count demo_entry (function_site count 0)
+  fact_entry : Fact count flat_entry (function_site count 0)
   fact_entry =
-      transfers demo_entry (function_site count 0) (placed demo_entry ((Mov B32 (Reg 0) (Imm count), 5) ∷ (Call (27 + 5 * count + 6 * 0), 5) ∷ []))
+      transfers flat_entry (function_site count 0) (placed flat_entry ((Mov B32 (Reg 0) (Imm count), 5) ∷ (Call (27 + 5 * count + 6 * 0), 5) ∷ []))
       (refl, sites.entry.1, (refl, (sites.call 0 (omega arith)).1, tt)) (refl, refl) (lit≤ tt) (calls 0 (omega arith))
 
   fact_call : (i : ℕ) → i < count → Fact count (call_site i) (function_site count i)

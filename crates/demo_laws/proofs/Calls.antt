@@ -23,7 +23,8 @@ use Rattle.run_model.specs.Edges.{Edge, is_transfer, edge_by}
 use Rattle.run_model.specs.Opening.{arguments, stack_top, opening}
 use Rattle.run_model.specs.Run.{observed}
 use Rattle.run_model.specs.Split.{RunsSplit, EdgesSplit, WellDefinedSplits}
-use Rattle.demo_gen.specs.Demonstration.{demo_start, demo_entry, demo_length}
+use Rattle.elf_flat.specs.Flat.{flat_start, flat_entry}
+use Rattle.demo_gen.specs.Demonstration.{demo_length}
 use Rattle.demo_laws.proofs.Goes.{Goes, behind, one_step, by_end, by_store, by_load, by_ask}
 use Rattle.demo_laws.proofs.Stack.{memory, IsStack, with_word, found_same, store_here, word_size, word_back, read_here, load_here}
 use Rattle.demo_laws.specs.Accepted.{demo_of}
@@ -69,14 +70,14 @@ opening_size =
     let t = top_size in
     length-append (zeros (1048576 - length top)) top ∙ omega (arith, length_zeros (1048576 - length top))
 
-opens : (count : ℕ) → opening (demo_of count) (arguments []) [] ≡ state count demo_entry (outer 0) (all_flags false) opening_stack []
+opens : (count : ℕ) → opening (demo_of count) (arguments []) [] ≡ state count flat_entry (outer 0) (all_flags false) opening_stack []
 unfolding opening_stack
 opens count = refl
 
 module _ (count : ℕ) (few : count ≤ 1000) (sites : HasDemoSites count) where
   -- in its code
   abbrev Within : ℕ → Type 0
-  Within at = (demo_start ≤ at) × (at < demo_start + demo_length count)
+  Within at = (flat_start ≤ at) × (at < flat_start + demo_length count)
 
   seen : (at n : ℕ) (i : Inst) (stack : List ℕ) → Within at → found_at (demo_of count) at ≡ There i n → found at (memory count stack) ≡ There i n
   seen at n i stack w f = found_same count at stack w.0 w.1 ∙ f
@@ -163,10 +164,10 @@ module _ (count : ℕ) (few : count ≤ 1000) (sites : HasDemoSites count) where
 
   -- ---- the entry, and the end
 
-  begins : (flags : Flags) (stack : List ℕ) → Goes 1 (state count demo_entry (outer 0) flags stack []) (state count (call_site 0) (outer count) flags stack []) []
+  begins : (flags : Flags) (stack : List ℕ) → Goes 1 (state count flat_entry (outer 0) flags stack []) (state count (call_site 0) (outer count) flags stack []) []
   unfolding meaning
   begins flags stack =
-      plain demo_entry 5 (call_site 0) (Mov B32 (Reg 0) (Imm count)) (outer 0) (outer count) flags stack [] (omega arith, omega arith) refl (omega arith) sites.entry.1 refl refl
+      plain flat_entry 5 (call_site 0) (Mov B32 (Reg 0) (Imm count)) (outer 0) (outer count) flags stack [] (omega arith, omega arith) refl (omega arith) sites.entry.1 refl refl
 
   pushes : (v : ℕ) (flags : Flags) (stack : List ℕ) → IsStack stack → Goes 1 (state count (write_site count) (outer v) flags stack []) (state count (write_site count + 1) (inner v) flags (with_word stack v) []) []
   unfolding meaning
@@ -322,7 +323,7 @@ module _ (splits : RunsSplit) (joins : EdgesSplit) (both : WellDefinedSplits) (c
     flags : Flags
     stack : List ℕ
     size : IsStack stack
-    goes : Goes steps (state count demo_entry (outer 0) (all_flags false) opening_stack []) (state count (call_site i) (outer (eax_after count i)) flags stack []) (edges_after count i)
+    goes : Goes steps (state count flat_entry (outer 0) (all_flags false) opening_stack []) (state count (call_site i) (outer (eax_after count i)) flags stack []) (edges_after count i)
 
   reached : (i : ℕ) → i ≤ count → Reached i
   reached zero h = record {
@@ -345,7 +346,7 @@ module _ (splits : RunsSplit) (joins : EdgesSplit) (both : WellDefinedSplits) (c
         flags = c.after_flags;
         stack = c.after_stack;
         size = c.size;
-        goes = after r.steps c.steps (r.steps + c.steps) (state count demo_entry (outer 0) (all_flags false) opening_stack []) (state count (call_site i) (outer eax) r.flags r.stack []) (state count (call_site (suc i)) (outer (eax_after count (suc i))) c.after_flags c.after_stack [])
+        goes = after r.steps c.steps (r.steps + c.steps) (state count flat_entry (outer 0) (all_flags false) opening_stack []) (state count (call_site i) (outer eax) r.flags r.stack []) (state count (call_site (suc i)) (outer (eax_after count (suc i))) c.after_flags c.after_stack [])
             (edges_after count i) (call_edges count i) refl r.goes c.goes;
       }
 
@@ -385,7 +386,7 @@ module _ (splits : RunsSplit) (joins : EdgesSplit) (both : WellDefinedSplits) (c
       let rf = r.bound in
       let v = eax_after count count in
       let last = exited count few sites r.flags (with_word r.stack v) (word v) in
-      let first = state count demo_entry (outer 0) (all_flags false) opening_stack [] in
+      let first = state count flat_entry (outer 0) (all_flags false) opening_stack [] in
       let g = after r.steps 9 (r.steps + 9) first (state count (call_site count) (outer v) r.flags r.stack []) last (edges_after count count) [] refl r.goes (ends v r.flags r.stack r.size) in
       record {
         steps = r.steps + 9;

@@ -9,14 +9,14 @@ use Rattle.trace_file.specs.Edges.{before, ascends_after, ascends}
 use Rattle.trace_file.proofs.Union.{here, there, first_or_later}
 use Rattle.trace_file.proofs.Unique.{none}
 use Rattle.flow_graph.specs.Graph.{targets_from}
-use Rattle.demo_gen.specs.Demonstration.{demo_entry}
+use Rattle.elf_flat.specs.Flat.{flat_entry}
 use Rattle.demo_laws.specs.Sites.{call_site, function_site}
 use Rattle.demo_laws.specs.Runs.{call_edges, edges_after, demo_edges}
 use Rattle.demo_laws.specs.Graph.{second_of}
 
 -- an edge of the run
 pub data Made (count : ℕ) : ℕ → ℕ → Type 0 where
-  began : Made count 0 demo_entry
+  began : Made count 0 flat_entry
   calls : (i : ℕ) → i < count → Made count (call_site i) (function_site count i)
   jumps : (i : ℕ) → i < count → Made count (function_site count i + 6) (second_of count i)
   returns : (i : ℕ) → i < count → Made count (function_site count i + 10) (call_site (suc i))
@@ -66,7 +66,7 @@ of_calls count (suc i) e h c = elim (Contains-append_cases (edges_after count i)
 ]
 
 pub made : (count : ℕ) (e : Edge) → Contains (demo_edges count) e → IsMade count e
-made count e c = elim (first_or_later (0, demo_entry) e (edges_after count count) c) [
+made count e c = elim (first_or_later (0, flat_entry) e (edges_after count count) c) [
   | inl s ↦ subst (IsMade count) s began
   | inr d ↦ of_calls count count e (omega arith) d
 ]
@@ -85,10 +85,10 @@ in_calls count i (suc j) e h c = go (split i j) (λ l. in_calls count i j e l c)
         Contains-append_right (edges_after count j) (call_edges count j) e (subst (λ i. Contains (call_edges count i) e) s c)
 
 pub member : (count s t : ℕ) → Made count s t → Contains (demo_edges count) (s, t)
-member count s t began = here (0, demo_entry) (edges_after count count)
-member count s t (calls i h) = there (0, demo_entry) (s, t) (edges_after count count) (in_calls count i count (s, t) h (0, omega arith, refl))
-member count s t (jumps i h) = there (0, demo_entry) (s, t) (edges_after count count) (in_calls count i count (s, t) h (1, omega arith, refl))
-member count s t (returns i h) = there (0, demo_entry) (s, t) (edges_after count count) (in_calls count i count (s, t) h (2, omega arith, refl))
+member count s t began = here (0, flat_entry) (edges_after count count)
+member count s t (calls i h) = there (0, flat_entry) (s, t) (edges_after count count) (in_calls count i count (s, t) h (0, omega arith, refl))
+member count s t (jumps i h) = there (0, flat_entry) (s, t) (edges_after count count) (in_calls count i count (s, t) h (1, omega arith, refl))
+member count s t (returns i h) = there (0, flat_entry) (s, t) (edges_after count count) (in_calls count i count (s, t) h (2, omega arith, refl))
 
 -- ---- one target of a site, in an ascending list
 

@@ -18,7 +18,8 @@ use Rattle.block_cut.specs.CountedEdges.{counts, counting}
 use Rattle.flow_graph.specs.Graph.{Node, Leads, IsStart, AreStarts, targets_from, known_by, known_of, starts_in, IsGraph}
 use Rattle.flow_graph.specs.GraphOf.{OneGraph}
 use Rattle.flow_graph.proofs.Ascending.{From, of_up}
-use Rattle.demo_gen.specs.Demonstration.{demo_entry, demo_file}
+use Rattle.elf_flat.specs.Flat.{flat_entry}
+use Rattle.demo_gen.specs.Demonstration.{demo_file}
 use Rattle.demo_laws.specs.Accepted.{demo_of, IsDemoAccepted}
 use Rattle.demo_laws.specs.Sites.{call_site, write_site, exit_site, function_site, HasDemoSites}
 use Rattle.demo_laws.specs.Runs.{second_site, is_negative, demo_edges, IsDemoRun}
@@ -52,7 +53,7 @@ ends_up count b h = (h, (omega arith, (omega arith, (omega arith, functions_up c
 
 nodes_up : (count : ℕ) → 1 ≤ count → IsStrictlyIncreasing (starts_in (demo_nodes count))
 nodes_up count some =
-    of_up (starts_in (demo_nodes count)) (calls_up count demo_entry 1 (count - 1) (end_nodes count ++ function_nodes count 0 count) (omega arith) (λ b l. ends_up count b (omega (arith, l, some))))
+    of_up (starts_in (demo_nodes count)) (calls_up count flat_entry 1 (count - 1) (end_nodes count ++ function_nodes count 0 count) (omega arith) (λ b l. ends_up count b (omega (arith, l, some))))
 
 calls_number : (count i k : ℕ) → length (call_nodes count i k) ≡ k
 calls_number count i zero = refl
@@ -116,7 +117,7 @@ has_node : (count s t : ℕ) → 1 ≤ count → Here count s t → Contains (de
 has_node count s t some h = by_kind s t h
   where
     in_rest : (x : Node) → Contains (call_nodes count 1 (count - 1) ++ (end_nodes count ++ function_nodes count 0 count)) x → Contains (demo_nodes count) x
-    in_rest x c = there (leads demo_entry (function_site count 0)) x (call_nodes count 1 (count - 1) ++ (end_nodes count ++ function_nodes count 0 count)) c
+    in_rest x c = there (leads flat_entry (function_site count 0)) x (call_nodes count 1 (count - 1) ++ (end_nodes count ++ function_nodes count 0 count)) c
 
     in_ends : (x : Node) → Contains (end_nodes count ++ function_nodes count 0 count) x → Contains (demo_nodes count) x
     in_ends x c = in_rest x (Contains-append_right (call_nodes count 1 (count - 1)) (end_nodes count ++ function_nodes count 0 count) x c)
@@ -125,7 +126,7 @@ has_node count s t some h = by_kind s t h
     in_function x c = in_ends x (Contains-append_right (end_nodes count) (function_nodes count 0 count) x c)
 
     by_kind : (s t : ℕ) → Here count s t → Contains (demo_nodes count) (leads s t)
-    by_kind s t entry = here (leads demo_entry (function_site count 0)) (call_nodes count 1 (count - 1) ++ (end_nodes count ++ function_nodes count 0 count))
+    by_kind s t entry = here (leads flat_entry (function_site count 0)) (call_nodes count 1 (count - 1) ++ (end_nodes count ++ function_nodes count 0 count))
     by_kind s t (call i p l) = in_rest (leads s t) (Contains-append_left (call_nodes count 1 (count - 1)) (end_nodes count ++ function_nodes count 0 count) (leads s t) (in_calls count i 1 (count - 1) (omega (arith, p)) (omega (arith, l, some))))
     by_kind s t write = in_ends (leads s t) (0, omega arith, refl)
     by_kind s t written = in_ends (leads s t) (1, omega arith, refl)
@@ -164,7 +165,7 @@ nodes_here count some =
     let a1 = All-cons P n1 (n2 ∷ n3 ∷ n4 ∷ f) (write_site count + 18, write, refl) a2 in
     let c = call_nodes count 1 (count - 1) in
     let all = All-append P c (n1 ∷ n2 ∷ n3 ∷ n4 ∷ f) (calls_here count 1 (count - 1) (omega arith) (omega (arith, some))) a1 in
-    All-cons P (leads demo_entry (function_site count 0)) (c ++ (end_nodes count ++ f)) (function_site count 0, entry, refl) all
+    All-cons P (leads flat_entry (function_site count 0)) (c ++ (end_nodes count ++ f)) (function_site count 0, entry, refl) all
 
 -- ---- edges that count
 
@@ -190,7 +191,7 @@ is_guest : (count : ℕ) → count ≤ 1000 → IsGuest (demo_of count)
 is_guest count few = record {
   segments = (record { low = omega arith; high = omega arith; some = omega arith; bytes = omega (arith, file_length count); perms = refl }, tt);
   order = (omega arith, tt);
-  entry = in_code count demo_entry (omega arith) (omega arith);
+  entry = in_code count flat_entry (omega arith) (omega arith);
   count = lit≤ tt;
   memory = omega arith;
   brk = refl;
@@ -210,7 +211,7 @@ module _ (one : EachHasOneBlock) (graphs : OneGraph) (sets : SetsHold) (counted 
   edge_member s t m = ((sets.gathered (demo_edges count)).members (s, t)).1 (member count s t m)
 
   target_code : (s t : ℕ) → Made count s t → is_exec t (demo_of count).segments ≡ true
-  target_code s t began = in_code count demo_entry (omega arith) (omega arith)
+  target_code s t began = in_code count flat_entry (omega arith) (omega arith)
   target_code s t (calls i h) = in_code count (function_site count i) (omega arith) (omega (arith, h))
   target_code s t (jumps i h) = let l = second_low count i in in_code count (second_of count i) (omega (arith, l.0)) (omega (arith, l.1, h))
   target_code s t (returns i h) = in_code count (call_site (suc i)) (omega arith) (omega (arith, h))
@@ -270,7 +271,7 @@ module _ (one : EachHasOneBlock) (graphs : OneGraph) (sets : SetsHold) (counted 
   at_exit = one_more (write_site count + 18) (exit_site count) (follow_written one count some few sites) at_written
 
   is_start : (s t : ℕ) → Here count s t → IsStart (demo_of count) (in_order (demo_edges count)) s
-  is_start s t entry = from_edge 0 demo_entry demo_entry began refl
+  is_start s t entry = from_edge 0 flat_entry flat_entry began refl
   is_start s t (call i p h) = from_edge (function_site count (i - 1) + 10) (call_site (suc (i - 1))) (call_site i) (returns (i - 1) (omega (arith, h))) (omega (arith, p))
   is_start s t write = at_write
   is_start s t written = at_written

@@ -4,13 +4,10 @@ use Rattle.std.specs.Prelude.{nat_lt}
 use Rattle.std.proofs.lemmas.Bool.{and_parts, ltb-true}
 use Rattle.std.proofs.lemmas.List.Elements.{All-nil, All-cons}
 use Rattle.br_word.specs.Memory.{bytes_of, AreBytes}
-use Rattle.elf_write.specs.File.{word, file_header}
+use Rattle.elf_write.specs.File.{word}
 use Rattle.run_model.proofs.KeptRegions.{word_bytes, both}
-use Rattle.demo_gen.specs.Demonstration.{demo_start, demo_entry, demo_header, demo_length, next_number, call_code, calls_code, write_code, exit_code, function_code, functions_code, demo_code, demo_file}
-
--- a file of this size with the headers of the demonstration
-abbrev pub headed : ℕ → List ℕ → List ℕ
-headed size rest = file_header 1 demo_entry (demo_header size ++ rest)
+use Rattle.elf_flat.specs.Flat.{headed}
+use Rattle.demo_gen.specs.Demonstration.{demo_length, next_number, call_code, calls_code, write_code, exit_code, function_code, functions_code, demo_code, demo_file}
 
 pub file_headed : (count : ℕ) → demo_file count ≡ headed (demo_length count) (demo_code count)
 unfolding demo_file
@@ -20,7 +17,7 @@ pub word_length : (v : ℕ) → length (word v) ≡ 4
 unfolding bytes_of
 word_length v = refl
 
-pub headed_length : (size : ℕ) (rest : List ℕ) → length (headed size rest) ≡ 84 + length rest
+headed_length : (size : ℕ) (rest : List ℕ) → length (headed size rest) ≡ 84 + length rest
 unfolding bytes_of
 headed_length size rest = omega arith
 
@@ -60,9 +57,6 @@ all_small : List ℕ → Bool
 all_small [] = true
 all_small (b ∷ bs) = nat_lt b 256 && all_small bs
 
-abbrev front : List ℕ
-front = file_header 1 demo_entry (word 1 ++ (word 0 ++ (word demo_start ++ word demo_start)))
-
 small : (bs : List ℕ) → all_small bs ≡ true → AreBytes bs
 unfolding all_small
 small [] h = All-nil Small
@@ -85,7 +79,7 @@ functions_bytes : (x k : ℕ) → AreBytes (functions_code x k)
 functions_bytes x zero = All-nil Small
 functions_bytes x (suc k) = both (function_code (next_number x)) (functions_code (next_number x) k) (function_bytes (next_number x)) (functions_bytes (next_number x) k)
 
-code_bytes : (n : ℕ) → AreBytes (demo_code n)
+pub code_bytes : (n : ℕ) → AreBytes (demo_code n)
 unfolding all_small
 code_bytes n =
     let f = functions_code n n in
@@ -94,23 +88,3 @@ code_bytes n =
     let calls = both (calls_code n 0 n) (write_code ++ (exit_code ++ f)) (calls_bytes n 0 n) write in
     let move = both (word n) (calls_code n 0 n ++ (write_code ++ (exit_code ++ f))) (word_bytes 4 n) calls in
     one 0xB8 (word n ++ (calls_code n 0 n ++ (write_code ++ (exit_code ++ f)))) (lit< tt) move
-
-headed_parts : (size : ℕ) (rest : List ℕ) → headed size rest ≡ front ++ (word size ++ (word size ++ (word 5 ++ (word 4096 ++ rest))))
-unfolding bytes_of
-headed_parts size rest = refl
-
-front_bytes : AreBytes front
-unfolding all_small bytes_of
-front_bytes = small front refl
-
-pub file_bytes : (n : ℕ) → AreBytes (demo_file n)
-file_bytes n =
-    let size = demo_length n in
-    let w = word size in
-    let code = demo_code n in
-    let at = both (word 4096) code (word_bytes 4 4096) (code_bytes n) in
-    let behind = both (word 5) (word 4096 ++ code) (word_bytes 4 5) at in
-    let second = both w (word 5 ++ (word 4096 ++ code)) (word_bytes 4 size) behind in
-    let first = both w (w ++ (word 5 ++ (word 4096 ++ code))) (word_bytes 4 size) second in
-    let all = both front (w ++ (w ++ (word 5 ++ (word 4096 ++ code)))) front_bytes first in
-    subst AreBytes (sym (file_headed n ∙ headed_parts size code)) all

@@ -5,7 +5,8 @@ use Rattle.run_model.specs.Edges.{edges_from}
 use Rattle.run_model.specs.Opening.{arguments, opening, opening_of, exe_or_none, guest_of}
 use Rattle.run_model.specs.Run.{observed, run, WellDefined}
 use Rattle.run_model.specs.Split.{RunsSplit, EdgesSplit, WellDefinedSplits}
-use Rattle.demo_gen.specs.Demonstration.{demo_entry, demo_file}
+use Rattle.elf_flat.specs.Flat.{flat_entry}
+use Rattle.demo_gen.specs.Demonstration.{demo_file}
 use Rattle.demo_laws.proofs.Goes.{Goes, rests, no_choice}
 use Rattle.demo_laws.proofs.Calls.{Whole, whole}
 use Rattle.demo_laws.specs.Accepted.{demo_of, IsDemoAccepted}
@@ -25,7 +26,7 @@ module _ (splits : RunsSplit) (joins : EdgesSplit) (both : WellDefinedSplits) (c
   opens : First ≡ opening (demo_of count) (arguments []) []
   opens = ap (λ r. opening (exe_or_none r) (arguments []) []) ok.guest
 
-  guest_entry : (guest_of (demo_file count)).entry ≡ demo_entry
+  guest_entry : (guest_of (demo_file count)).entry ≡ flat_entry
   guest_entry = ap (λ r. (exe_or_none r).entry) ok.guest
 
   module _ (w : W) where
@@ -69,7 +70,7 @@ module _ (splits : RunsSplit) (joins : EdgesSplit) (both : WellDefinedSplits) (c
       few = w.bound;
       before = goes.before;
       shown = λ n h. ap observed (there n h) ∙ w.shown;
-      edges = λ n h. ap (λ a. (0, a) ∷ edges_from n First) guest_entry ∙ ap (λ es. (0, demo_entry) ∷ es) (found n h);
+      edges = λ n h. ap (λ a. (0, a) ∷ edges_from n First) guest_entry ∙ ap (λ es. (0, flat_entry) ∷ es) (found n h);
     }
 
   pub demo_runs : IsDemoRun count

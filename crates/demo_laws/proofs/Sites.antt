@@ -11,8 +11,9 @@ use Rattle.ia_inst.specs.declared.inst.Inst.{Inst}
 use Rattle.ia_inst.specs.Instructions.{decode_of}
 use Rattle.ia_inst.specs.Step.{NoCode, There, found_from}
 use Rattle.block_cut.specs.Places.{found_at}
-use Rattle.demo_gen.specs.Demonstration.{demo_start, demo_entry, demo_length, next_number, call_code, calls_code, write_code, exit_code, function_code, functions_code, demo_code, demo_file}
-use Rattle.demo_laws.proofs.Lengths.{headed, file_headed, file_length, calls_length}
+use Rattle.elf_flat.specs.Flat.{flat_start, flat_entry, headed}
+use Rattle.demo_gen.specs.Demonstration.{demo_length, next_number, call_code, calls_code, write_code, exit_code, function_code, functions_code, demo_code, demo_file}
+use Rattle.demo_laws.proofs.Lengths.{file_headed, file_length, calls_length}
 use Rattle.demo_laws.proofs.Spelled.{move_again, call_again, add_again, move_eax, move_ebx, move_edx, push_eax, move_esp, system_call, jump_sign, invert_eax, return}
 use Rattle.demo_laws.specs.Accepted.{demo_of, demo_segment}
 use Rattle.demo_laws.specs.Sites.{Stand, call_site, write_site, exit_site, function_site, number_added, entry_part, call_part, write_part, exit_part, function_part, HasDemoSites}
@@ -30,16 +31,16 @@ segment_whole count =
     ap (λ n. demo_file count ++ zeros n) z ∙ nothing count
 
 -- what is found at an offset
-pub found_there : (count off : ℕ) → off < demo_length count → found_at (demo_of count) (demo_start + off) ≡ found_from (decode_of (drop off (demo_file count)))
+pub found_there : (count off : ℕ) → off < demo_length count → found_at (demo_of count) (flat_start + off) ≡ found_from (decode_of (drop off (demo_file count)))
 unfolding found_at
 found_there count off h =
-    let at = demo_start + off in
+    let at = flat_start + off in
     let file = segment_bytes (demo_segment count) in
-    let a : nat_le demo_start at ≡ true = le-leb demo_start at (omega arith) in
-    let b : nat_lt at (demo_start + demo_length count) ≡ true = lt-ltb at (demo_start + demo_length count) (omega arith) in
-    let o : at - demo_start ≡ off = omega arith in
-    ap (λ t. if (t && nat_lt at (demo_start + demo_length count)) || false then found_from (decode_of (if t && nat_lt at (demo_start + demo_length count) then drop (at - demo_start) file else [])) else NoCode) a
-    ∙ ap (λ t. if t || false then found_from (decode_of (if t then drop (at - demo_start) file else [])) else NoCode) b
+    let a : nat_le flat_start at ≡ true = le-leb flat_start at (omega arith) in
+    let b : nat_lt at (flat_start + demo_length count) ≡ true = lt-ltb at (flat_start + demo_length count) (omega arith) in
+    let o : at - flat_start ≡ off = omega arith in
+    ap (λ t. if (t && nat_lt at (flat_start + demo_length count)) || false then found_from (decode_of (if t && nat_lt at (flat_start + demo_length count) then drop (at - flat_start) file else [])) else NoCode) a
+    ∙ ap (λ t. if t || false then found_from (decode_of (if t then drop (at - flat_start) file else [])) else NoCode) b
     ∙ ap (λ n. found_from (decode_of (drop n file))) o
     ∙ ap (λ bs. found_from (decode_of (drop off bs))) (segment_whole count)
 
@@ -51,7 +52,7 @@ further : (count off n : ℕ) (bytes : List ℕ) → At count off bytes → At c
 further count off n bytes h = sym (drop-drop n off (demo_file count)) ∙ ap (drop n) h
 
 -- one instruction
-there : (count off : ℕ) (bytes : List ℕ) (i : Inst) (n : ℕ) → off < demo_length count → At count off bytes → decode_of bytes ≡ Some (i, n) → found_at (demo_of count) (demo_start + off) ≡ There i n
+there : (count off : ℕ) (bytes : List ℕ) (i : Inst) (n : ℕ) → off < demo_length count → At count off bytes → decode_of bytes ≡ Some (i, n) → found_at (demo_of count) (flat_start + off) ≡ There i n
 there count off bytes i n h a d = found_there count off h ∙ ap (λ bs. found_from (decode_of bs)) a ∙ ap found_from d
 
 -- the code behind the calls, and behind the system calls
@@ -133,12 +134,12 @@ number_small x (suc i) = number_small (next_number x) i
 
 module _ (count : ℕ) (few : count ≤ 1000) where
   -- one instruction at an address
-  stands : (at off : ℕ) (bytes : List ℕ) (i : Inst) (n : ℕ) → at ≡ demo_start + off → off < demo_length count → At count off bytes → decode_of bytes ≡ Some (i, n) → found_at (demo_of count) at ≡ There i n
+  stands : (at off : ℕ) (bytes : List ℕ) (i : Inst) (n : ℕ) → at ≡ flat_start + off → off < demo_length count → At count off bytes → decode_of bytes ≡ Some (i, n) → found_at (demo_of count) at ≡ There i n
   stands at off bytes i n e h a d = ap (found_at (demo_of count)) e ∙ there count off bytes i n h a d
 
-  entry_stands : Stand (demo_of count) demo_entry (entry_part count)
+  entry_stands : Stand (demo_of count) flat_entry (entry_part count)
   entry_stands =
-      (refl, stands demo_entry 84 (demo_code count) _ 5 refl (omega arith) (at_entry count) (move_again count (calls_code count 0 count ++ ends count) (omega arith)), tt)
+      (refl, stands flat_entry 84 (demo_code count) _ 5 refl (omega arith) (at_entry count) (move_again count (calls_code count 0 count ++ ends count) (omega arith)), tt)
 
   call_stands : (i : ℕ) → i < count → Stand (demo_of count) (call_site i) (call_part (27 + 5 * count + 6 * i))
   call_stands i h =
@@ -148,7 +149,7 @@ module _ (count : ℕ) (few : count ≤ 1000) where
       let a : At count (89 + 5 * i) bytes = at_call count i (omega arith) ∙ ap (λ k. calls_code count i k ++ ends count) s ∙ append_assoc (call_code count i) rest (ends count) in
       (refl, stands (call_site i) (89 + 5 * i) bytes _ 5 (omega arith) (omega arith) a (call_again (27 + 5 * count + 6 * i) (rest ++ ends count) (omega arith)), tt)
 
-  module _ (base : ℕ) (off : ℕ) (whole : List ℕ) (b : base ≡ demo_start + off) (inside : off + 20 < demo_length count) (a : At count off whole) where
+  module _ (base : ℕ) (off : ℕ) (whole : List ℕ) (b : base ≡ flat_start + off) (inside : off + 20 < demo_length count) (a : At count off whole) where
     pub next : (k : ℕ) (i : Inst) (n : ℕ) → k ≤ 20 → (at : ℕ) → at ≡ base + k → decode_of (drop k whole) ≡ Some (i, n) → found_at (demo_of count) at ≡ There i n
     next k i n l at e d = stands at (off + k) (drop k whole) i n (omega arith) (omega arith) (further count off k whole a) d
 

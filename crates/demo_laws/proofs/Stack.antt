@@ -10,7 +10,8 @@ use Rattle.elf_read.proofs.Numbers.{number_again, length_bytes_of}
 use Rattle.ia_inst.specs.Instructions.{decode_of}
 use Rattle.ia_inst.specs.Step.{NoCode, found_from, found_in, found}
 use Rattle.block_cut.specs.Places.{found_at}
-use Rattle.demo_gen.specs.Demonstration.{demo_start, demo_length}
+use Rattle.elf_flat.specs.Flat.{flat_start}
+use Rattle.demo_gen.specs.Demonstration.{demo_length}
 use Rattle.demo_laws.proofs.Lengths.{file_length}
 use Rattle.demo_laws.proofs.Sites.{segment_whole}
 use Rattle.demo_laws.specs.Accepted.{demo_of, demo_segment}
@@ -45,20 +46,20 @@ code_size : (count : ℕ) → length (code_of count).bytes ≡ demo_length count
 code_size count = ap length (segment_whole count) ∙ file_length count
 
 -- code is found in memory as in the executable
-pub found_same : (count at : ℕ) (stack : List ℕ) → demo_start ≤ at → at < demo_start + demo_length count → found at (memory count stack) ≡ found_at (demo_of count) at
+pub found_same : (count at : ℕ) (stack : List ℕ) → flat_start ≤ at → at < flat_start + demo_length count → found at (memory count stack) ≡ found_at (demo_of count) at
 unfolding bytes_at found_at
 found_same count at stack low high =
     let bytes = segment_bytes (demo_segment count) in
-    let here = found_from (decode_of (drop (at - demo_start) bytes)) in
+    let here = found_from (decode_of (drop (at - flat_start) bytes)) in
     let others = bytes_at Runs at 1 (stack_of stack ∷ heap_region (demo_of count).brk_start ∷ []) in
     let c = code_size count in
-    let a : nat_le demo_start at ≡ true = le-leb demo_start at low in
-    let b : nat_le (at + 1) (demo_start + length (code_of count).bytes) ≡ true = le-leb (at + 1) (demo_start + length (code_of count).bytes) (omega (arith, c, high)) in
-    let d : nat_lt at (demo_start + demo_length count) ≡ true = lt-ltb at (demo_start + demo_length count) high in
-    ap (λ t. found_in (if (t && nat_le (at + 1) (demo_start + length (code_of count).bytes)) && true then Some (drop (at - demo_start) bytes) else others)) a
-    ∙ ap (λ t. found_in (if t && true then Some (drop (at - demo_start) bytes) else others)) b
-    ∙ sym (ap (λ t. if (t && nat_lt at (demo_start + demo_length count)) || false then found_from (decode_of (if t && nat_lt at (demo_start + demo_length count) then drop (at - demo_start) bytes else [])) else NoCode) a
-    ∙ ap (λ t. if t || false then found_from (decode_of (if t then drop (at - demo_start) bytes else [])) else NoCode) d)
+    let a : nat_le flat_start at ≡ true = le-leb flat_start at low in
+    let b : nat_le (at + 1) (flat_start + length (code_of count).bytes) ≡ true = le-leb (at + 1) (flat_start + length (code_of count).bytes) (omega (arith, c, high)) in
+    let d : nat_lt at (flat_start + demo_length count) ≡ true = lt-ltb at (flat_start + demo_length count) high in
+    ap (λ t. found_in (if (t && nat_le (at + 1) (flat_start + length (code_of count).bytes)) && true then Some (drop (at - flat_start) bytes) else others)) a
+    ∙ ap (λ t. found_in (if t && true then Some (drop (at - flat_start) bytes) else others)) b
+    ∙ sym (ap (λ t. if (t && nat_lt at (flat_start + demo_length count)) || false then found_from (decode_of (if t && nat_lt at (flat_start + demo_length count) then drop (at - flat_start) bytes else [])) else NoCode) a
+    ∙ ap (λ t. if t || false then found_from (decode_of (if t then drop (at - flat_start) bytes else [])) else NoCode) d)
 
 and_no : (a b : Bool) → b ≡ false → (a && b) ≡ false
 and_no true b e = e
@@ -74,7 +75,7 @@ unfolding written
 write_at count at off stack new e l =
     let heap = heap_region (demo_of count).brk_start in
     let rest = stack_of stack ∷ heap ∷ [] in
-    let some = Some (record (code_of count) { bytes = put_over (code_of count).bytes (at - demo_start) new } ∷ rest) in
+    let some = Some (record (code_of count) { bytes = put_over (code_of count).bytes (at - flat_start) new } ∷ rest) in
     let o : at - 0xBFF00000 ≡ off = omega arith in
     let a : nat_le 0xBFF00000 at ≡ true = le-leb 0xBFF00000 at (omega arith) in
     let b : nat_le (at + length new) (0xBFF00000 + length stack) ≡ true = le-leb (at + length new) (0xBFF00000 + length stack) (omega arith) in
@@ -89,11 +90,11 @@ read_at count at off stack few e l =
     let heap = heap_region (demo_of count).brk_start in
     let c = code_size count in
     let o : at - 0xBFF00000 ≡ off = omega arith in
-    let n : nat_le (at + 4) (demo_start + length (code_of count).bytes) ≡ false = lt-leb (at + 4) (demo_start + length (code_of count).bytes) (omega arith) in
-    let none : covers (code_of count) at 4 ≡ false = and_no (nat_le demo_start at) (nat_le (at + 4) (demo_start + length (code_of count).bytes)) n in
+    let n : nat_le (at + 4) (flat_start + length (code_of count).bytes) ≡ false = lt-leb (at + 4) (flat_start + length (code_of count).bytes) (omega arith) in
+    let none : covers (code_of count) at 4 ≡ false = and_no (nat_le flat_start at) (nat_le (at + 4) (flat_start + length (code_of count).bytes)) n in
     let a : nat_le 0xBFF00000 at ≡ true = le-leb 0xBFF00000 at (omega arith) in
     let b : nat_le (at + 4) (0xBFF00000 + length stack) ≡ true = le-leb (at + 4) (0xBFF00000 + length stack) (omega arith) in
-    ap (λ t. if t && true then Some (drop (at - demo_start) (code_of count).bytes) else bytes_at Reads at 4 (stack_of stack ∷ heap ∷ [])) none
+    ap (λ t. if t && true then Some (drop (at - flat_start) (code_of count).bytes) else bytes_at Reads at 4 (stack_of stack ∷ heap ∷ [])) none
     ∙ ap (λ t. if (t && nat_le (at + 4) (0xBFF00000 + length stack)) && true then Some (drop (at - 0xBFF00000) stack) else bytes_at Reads at 4 (heap ∷ [])) a
     ∙ ap (λ t. if t && true then Some (drop (at - 0xBFF00000) stack) else bytes_at Reads at 4 (heap ∷ [])) b
     ∙ ap (λ off. Some (drop off stack)) o

@@ -5,12 +5,13 @@ use Rattle.elf_read.specs.declared.exe.Segment.{Segment}
 use Rattle.elf_read.specs.declared.exe.Exe.{Exe}
 use Rattle.elf_read.specs.declared.exe.Reach.TheVariants.{Original, Guest}
 use Rattle.elf_read.specs.Elf.{elf, round_up}
-use Rattle.demo_gen.specs.Demonstration.{demo_start, demo_entry, demo_length, demo_file}
+use Rattle.elf_flat.specs.Flat.{flat_start, flat_entry}
+use Rattle.demo_gen.specs.Demonstration.{demo_length, demo_file}
 
 -- its one segment, read and executed, is the whole file
 abbrev pub demo_segment : ℕ → Segment
 demo_segment count = record {
-  start = demo_start;
+  start = flat_start;
   size = demo_length count;
   perms = record { read = true; write = false; exec = true };
   bytes = demo_file count;
@@ -19,9 +20,9 @@ demo_segment count = record {
 -- it begins behind its headers; the heap begins at the page behind the segment
 abbrev pub demo_of : ℕ → Exe
 demo_of count = record {
-  entry = demo_entry;
+  entry = flat_entry;
   segments = demo_segment count ∷ [];
-  brk_start = round_up (demo_start + demo_length count);
+  brk_start = round_up (flat_start + demo_length count);
 }
 
 -- the file is accepted, as an original and as a guest, and is of bytes

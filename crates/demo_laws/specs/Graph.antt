@@ -5,7 +5,7 @@ use Rattle.block_cut.specs.Blocks.{block_of}
 use Rattle.flow_graph.specs.Graph.{Node}
 use Rattle.flow_graph.specs.GraphOf.{graph_of}
 use Rattle.trace_file.specs.Edges.{in_order}
-use Rattle.demo_gen.specs.Demonstration.{demo_entry}
+use Rattle.elf_flat.specs.Flat.{flat_entry}
 use Rattle.demo_laws.specs.Accepted.{demo_of}
 use Rattle.demo_laws.specs.Sites.{call_site, write_site, exit_site, function_site}
 use Rattle.demo_laws.specs.Runs.{second_site, is_negative, demo_edges}
@@ -38,7 +38,7 @@ function_nodes count i (suc k) =
 -- all of them, ascending; the entry's block has the first call
 abbrev pub demo_nodes : ℕ → List Node
 demo_nodes count =
-    leads demo_entry (function_site count 0)
+    leads flat_entry (function_site count 0)
     ∷ (call_nodes count 1 (count - 1) ++ (end_nodes count ++ function_nodes count 0 count))
 
 -- a block of at most five instructions, with at most one known exit

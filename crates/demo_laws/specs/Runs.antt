@@ -5,7 +5,8 @@ use Rattle.br_word.specs.Words.{sign_bit}
 use Rattle.elf_write.specs.File.{word}
 use Rattle.run_model.specs.Edges.{Edge, edges_of}
 use Rattle.run_model.specs.Run.{Observation, run_of, observed_of, IsWellDefinedRun}
-use Rattle.demo_gen.specs.Demonstration.{demo_entry, demo_file}
+use Rattle.elf_flat.specs.Flat.{flat_entry}
+use Rattle.demo_gen.specs.Demonstration.{demo_file}
 use Rattle.demo_laws.specs.Sites.{call_site, function_site, number_added}
 
 -- ---- what the functions do to eax
@@ -47,7 +48,7 @@ edges_after count (suc i) = edges_after count i ++ call_edges count i
 
 -- all edges, from the pair that says that the run began
 abbrev pub demo_edges : ℕ → List Edge
-demo_edges count = (0, demo_entry) ∷ edges_after count count
+demo_edges count = (0, flat_entry) ∷ edges_after count count
 
 -- ---- the run
 

@@ -8,7 +8,8 @@ use Rattle.ia_inst.specs.declared.inst.Rm.TheVariants.{Reg}
 use Rattle.ia_inst.specs.declared.inst.Src.TheVariants.{Imm, Rm}
 use Rattle.block_cut.specs.Places.{Placed}
 use Rattle.block_cut.specs.Blocks.{StandFrom}
-use Rattle.demo_gen.specs.Demonstration.{demo_entry, next_number}
+use Rattle.elf_flat.specs.Flat.{flat_entry}
+use Rattle.demo_gen.specs.Demonstration.{next_number}
 use Rattle.demo_laws.specs.Accepted.{demo_of}
 
 -- instructions with their lengths, one behind the other from an address on
@@ -24,7 +25,7 @@ Stand exe at is = StandFrom exe at (placed at is)
 
 -- call i stands behind the MOV at the entry and i calls, and so does the return of call i - 1
 abbrev pub call_site : ℕ → ℕ
-call_site i = demo_entry + 5 + 5 * i
+call_site i = flat_entry + 5 + 5 * i
 
 -- the write stands behind all calls
 abbrev pub write_site : ℕ → ℕ
@@ -68,7 +69,7 @@ function_part number = (Alu 0 B32 (Reg 0) (Imm number), 6) ∷ (Jcc 8 2, 2) ∷ 
 
 -- all of it
 pub record HasDemoSites (count : ℕ) : Type 0 where
-  pub entry : Stand (demo_of count) demo_entry (entry_part count)
+  pub entry : Stand (demo_of count) flat_entry (entry_part count)
   pub call : (i : ℕ) → i < count → Stand (demo_of count) (call_site i) (call_part (27 + 5 * count + 6 * i))
   pub write : Stand (demo_of count) (write_site count) write_part
   pub exit : Stand (demo_of count) (exit_site count) exit_part

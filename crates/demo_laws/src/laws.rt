@@ -8,6 +8,7 @@ ghost use Rattle.demo_laws.specs.Runs.{DemoRuns};
 ghost use Rattle.demo_laws.specs.Graph.{DemoGraph};
 
 use block_cut::one_block;
+use elf_flat::flat_accepted;
 use flow_graph::one_graph;
 use run_model::runs_split;
 use sim_laws::edges_count;
@@ -17,7 +18,9 @@ use trace_file::sets_hold;
 /// the whole file.
 pub fn demo_accepted()
     ensures { DemoAccepted }
-{}
+{
+    flat_accepted();
+}
 
 /// What stands in its code: a MOV, a call of each function, the system calls write and exit, and the functions.
 pub fn demo_sites()
