@@ -5,7 +5,8 @@ use Rattle.std.proofs.lemmas.Bool.{eq-eqb, ne_eqb, le-leb, lt-leb, cond-true, co
 use Rattle.std.proofs.lemmas.List.Sums.{position_or_len_is}
 use Rattle.std.proofs.lemmas.List.{drop-drop, get_or_default}
 use Rattle.std.proofs.lemmas.Slice.{between_is}
-use Rattle.line_reader.specs.Lines.{is_end, line_length, Next, Text, TooLong, next_in}
+use Rattle.script_text.specs.Split.{is_end}
+use Rattle.line_reader.specs.Lines.{line_length, Next, Text, TooLong, next_in}
 
 pub most : (xs : List ℕ) → line_length xs ≤ length xs
 most [] = omega arith

@@ -1,10 +1,7 @@
 -- The lines of a script, as they stand in its bytes.
 use Rattle.std.specs.Prelude.{ℕ, ◌+◌, ◌==◌, min, nat_le, Bool, List, [], ◌∷◌, take, cond}
 use Rattle.std.specs.List.{position_or_len}
-
--- whether the byte is LF
-abbrev pub is_end : ℕ → Bool
-is_end byte = byte == 10
+use Rattle.script_text.specs.Split.{is_end}
 
 -- how many bytes stand before the first LF, or in all where there is none
 abbrev pub line_length : List ℕ → ℕ

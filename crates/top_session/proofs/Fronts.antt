@@ -28,7 +28,8 @@ use Rattle.top_plan.proofs.TurnsKept.{turned_kept}
 use Rattle.top_build.specs.BuildPlan.{limited_built}
 use Rattle.top_session.specs.Lines.{line_turn, line_part, added_line, removed_line, emitted_line, lines_end}
 use Rattle.top_session.specs.SessionPlan.{edges_of_line, added, removed, order_part, line_step, past_last, lines_part}
-use Rattle.top_session.specs.Sitting.{Sitting, Done, lines_of, prints_on, stores_on, checks_on, content_on, order_done, line_done, goes_on, sitting}
+use Rattle.script_text.specs.Split.{lines_of}
+use Rattle.top_session.specs.Sitting.{Sitting, Done, prints_on, stores_on, checks_on, content_on, order_done, line_done, goes_on, sitting}
 use Rattle.top_session.specs.SessionMeaning.{IsLeft, AreFirst}
 use Rattle.top_session.proofs.ScriptLines.{first_line}
 use Rattle.top_session.proofs.Behind.{behind_added, behind_trace, behind_file}

@@ -1,7 +1,7 @@
 -- The lines of a script, the first of them told apart.
 use Rattle.std.proofs.Common.{◌≡◌, ◌+◌, ℕ, suc, Bool, true, false, not, cond, List, [], ◌∷◌, take, drop, refl, ◌∙◌, ap, arith}
-use Rattle.line_reader.specs.Lines.{is_end, line_length}
-use Rattle.top_session.specs.Sitting.{put_first, lines_of}
+use Rattle.script_text.specs.Split.{is_end, lines_of, put_first}
+use Rattle.line_reader.specs.Lines.{line_length}
 
 -- the first line and the lines behind it, by how long the first is
 abbrev parted : List ℕ → ℕ → List (List ℕ)

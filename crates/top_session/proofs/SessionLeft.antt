@@ -22,7 +22,8 @@ use Rattle.top_plan.proofs.TurnsKept.{ahead_kept}
 use Rattle.top_files.specs.OriginalPart.{of_word, with_digest}
 use Rattle.top_session.specs.Lines.{lines_end}
 use Rattle.top_session.specs.SessionPlan.{lines_part, session_plan}
-use Rattle.top_session.specs.Sitting.{Sitting, lines_of}
+use Rattle.script_text.specs.Split.{lines_of}
+use Rattle.top_session.specs.Sitting.{Sitting}
 use Rattle.top_session.specs.SessionMeaning.{seated, HoldsBut, IsLeft, AreFirst, HasLeft, IsUntouched}
 use Rattle.top_session.proofs.Fronts.{IsAt, lines_left}
 

@@ -8,7 +8,8 @@ use Rattle.trace_file.specs.Trace.{trace}
 use Rattle.code_layout.specs.Image.{built_of}
 use Rattle.session_core.specs.Session.{SessionView, traces_in, with_traces, live_edges, to_make, emitted_from}
 use Rattle.script_text.specs.Lines.{Ordered, Nothings, Adds, Removes, Emits, order_of}
-use Rattle.line_reader.specs.Lines.{is_end, line_length, Next, Nothing, TooLong, Text, next_in, used_in}
+use Rattle.script_text.specs.Split.{is_end, lines_of}
+use Rattle.line_reader.specs.Lines.{line_length, Next, Nothing, TooLong, Text, next_in, used_in}
 use Rattle.top_plan.specs.Plan.{Plan, Ends}
 use Rattle.top_plan.specs.Parts.{checked, prints}
 use Rattle.top_plan.specs.Texts.{Finished}
@@ -22,7 +23,7 @@ use Rattle.top_plan.specs.declared.ends.Limit.TheVariants as limits
 use Rattle.top_build.specs.BuildPlan.{limited_built}
 use Rattle.top_session.specs.Lines.{line_turn, added_line, removed_line, emitted_line, lines_end}
 use Rattle.top_session.specs.SessionPlan.{edges_of_line, added, removed, order_part, line_step, past_last, lines_part}
-use Rattle.top_session.specs.Sitting.{Sitting, Done, Course, lines_of, prints_on, stores_on, checks_on, content_on, order_done, line_done, goes_on, sitting}
+use Rattle.top_session.specs.Sitting.{Sitting, Done, Course, prints_on, stores_on, checks_on, content_on, order_done, line_done, goes_on, sitting}
 use Rattle.top_session.proofs.ScriptLines.{first_line}
 use Rattle.top_session.proofs.Behind.{behind_added, behind_trace, behind_file}
 

@@ -27,7 +27,8 @@ use Rattle.top_build.specs.BuildPlan.{limited_built}
 use Rattle.top_build.proofs.EdgesGiven.{trace_ascends}
 use Rattle.top_session.specs.Lines.{added_line, removed_line}
 use Rattle.top_session.specs.SessionPlan.{edges_of_line, added, removed}
-use Rattle.top_session.specs.Sitting.{Sitting, Done, Course, lines_of, prints_on, stores_on, checks_on, content_on, order_done, line_done, goes_on, sitting}
+use Rattle.script_text.specs.Split.{lines_of}
+use Rattle.top_session.specs.Sitting.{Sitting, Done, Course, prints_on, stores_on, checks_on, content_on, order_done, line_done, goes_on, sitting}
 use Rattle.top_session.specs.SessionMeaning.{IsSound}
 use Rattle.top_session.proofs.SessionMeant.{AllSound}
 

@@ -20,7 +20,8 @@ use Rattle.top_plan.specs.Expected.{HasFailed}
 use Rattle.top_plan.specs.Partial.{WroteFront}
 use Rattle.top_plan.specs.declared.ends.Object.TheVariants as objects
 use Rattle.top_files.specs.Answers.{Says, Unstored, UnlessBroken, IsAbsent, IsRefused, UnlessLong}
-use Rattle.top_session.specs.Sitting.{Sitting, Course, lines_of, sitting}
+use Rattle.script_text.specs.Split.{lines_of}
+use Rattle.top_session.specs.Sitting.{Sitting, Course, sitting}
 
 -- before the first line
 abbrev pub seated : Exe → Files → Sitting

@@ -7,7 +7,7 @@ use Rattle.code_layout.specs.declared.built.Built.{Built}
 use Rattle.code_layout.specs.Image.{built_of}
 use Rattle.session_core.specs.Session.{SessionView, traces_in, with_traces, live_edges, to_make, emitted_from}
 use Rattle.script_text.specs.Lines.{Ordered, Nothings, Adds, Removes, Emits, order_of}
-use Rattle.line_reader.specs.Lines.{is_end}
+use Rattle.script_text.specs.Split.{lines_of}
 use Rattle.top_plan.specs.Texts.{WorkEnd}
 use Rattle.top_plan.specs.Outcomes.{done_with}
 use Rattle.top_plan.specs.declared.ends.Halt.{Halt}
@@ -21,18 +21,6 @@ use Rattle.top_build.specs.BuildPlan.{limited_built}
 use Rattle.top_session.specs.declared.limits.TheConstants.{LINE_LIMIT, LINE_COUNT_LIMIT, BAD_LINE}
 use Rattle.top_session.specs.Lines.{added_line, removed_line, emitted_line, lines_line}
 use Rattle.top_session.specs.SessionPlan.{edges_of_line, added, removed}
-
--- ---- the lines of a script
-
--- one byte more before the first of these lines
-abbrev pub put_first : ℕ → List (List ℕ) → List (List ℕ)
-put_first byte [] = (byte ∷ []) ∷ []
-put_first byte (line ∷ lines) = (byte ∷ line) ∷ lines
-
--- each line ends with LF, or with the end of the script
-abbrev pub lines_of : List ℕ → List (List ℕ)
-lines_of [] = []
-lines_of (byte ∷ bytes) = cond (is_end byte) ([] ∷ lines_of bytes) (put_first byte (lines_of bytes))
 
 -- ---- what a line does
 
