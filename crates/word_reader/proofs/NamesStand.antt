@@ -4,7 +4,7 @@ use Rattle.std.specs.Prelude.{codes, Result, Ok, Err}
 use Rattle.std.specs.Str.{bytes_eq}
 use Rattle.word_reader.specs.declared.limits.TheConstants.{DIGIT_LIMIT, DEFAULT_STEPS, DEMO_LIMIT, FIRST_NAME, FIRST_NAME_BEHIND_STEPS}
 use Rattle.word_reader.specs.Numbers.{number_in}
-use Rattle.word_reader.specs.Words.{Asked, Builds, Traces, Runs, Merges, Shows, Sessions, Demos, is_name, next_name, no_more, unless_wrong, or_wrong, first_no_argument, first_no_trace, traces_at, arguments_at, own_bytes, is_steps, steps_behind, first_name, build_words, trace_words, run_words, merge_words, show_words, session_words, demo_words, demo_count, command, Named}
+use Rattle.word_reader.specs.Words.{Asked, Builds, Traces, Runs, Merges, Shows, Sessions, Demos, Assembles, is_name, next_name, no_more, unless_wrong, or_wrong, first_no_argument, first_no_trace, traces_at, arguments_at, own_bytes, is_steps, steps_behind, first_name, build_words, trace_words, run_words, merge_words, show_words, session_words, demo_words, demo_count, asm_words, command, Named}
 
 -- what is read is named where it stands
 unfoldable Stood : List (List ℕ) → Result Asked ℕ → Type 0
@@ -128,6 +128,11 @@ demo_stood all (word ∷ words) =
     number_stood all 1 (number_in DIGIT_LIMIT word) (λ count. demo_count count words)
     (λ count. cond_stood all (nat_le 1 count && nat_le count DEMO_LIMIT) (no_more 2 words (Demos count)) (Err 1) (more_stood all 2 words (Demos count) tt) tt)
 
+asm_stood : (all words : List (List ℕ)) → Stood all (asm_words words)
+asm_stood all words =
+    name_stood all 1 words (λ n words. next_name 2 words (λ text words. no_more 3 words (Assembles n text)))
+    (λ n words. name_stood all 2 words (λ text words. no_more 3 words (Assembles n text)) (λ text words. more_stood all 3 words (Assembles n text) tt))
+
 command_stood : (words : List (List ℕ)) → Stood words (command words)
 unfolding Stood command
 command_stood [] = tt
@@ -139,7 +144,8 @@ command_stood (word ∷ words) =
     cond_stood all (bytes_eq word (codes "merge")) (merge_words words) _ (merge_stood all words) (
     cond_stood all (bytes_eq word (codes "show")) (show_words words) _ (show_stood all words) (
     cond_stood all (bytes_eq word (codes "session")) (session_words words) _ (session_stood all words) (
-    cond_stood all (bytes_eq word (codes "demo")) (demo_words words) (Err 0) (demo_stood all words) tt))))))
+    cond_stood all (bytes_eq word (codes "demo")) (demo_words words) _ (demo_stood all words) (
+    cond_stood all (bytes_eq word (codes "asm")) (asm_words words) (Err 0) (asm_stood all words) tt)))))))
 
 pub names_stand : (words : List (List ℕ)) (asked : Asked) → command words ≡ Ok asked → Named words asked
 unfolding Stood

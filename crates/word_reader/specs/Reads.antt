@@ -1,7 +1,7 @@
 -- What the reader's parts answer.
 use Rattle.std.specs.Prelude.{◌≡◌, ◌≤◌, ◌+◌, ℕ, List, ◌∷◌, true, Option, Some, None, Result, Ok, Err, String, map, string_bytes}
 use Rattle.std.specs.Borrow.{Bor}
-use Rattle.word_reader.specs.Words.{Asked, Builds, Traces, Runs, Merges, Shows, Sessions, Demos, is_name, next_name, steps_behind, next_steps}
+use Rattle.word_reader.specs.Words.{Asked, Builds, Traces, Runs, Merges, Shows, Sessions, Demos, Assembles, is_name, next_name, steps_behind, next_steps}
 use Rattle.word_reader.specs.declared.command.Command.{Command}
 use Rattle.word_reader.specs.declared.command.Command.TheVariants as commands
 use Rattle.word_reader.specs.declared.command.Usage.{Usage}
@@ -15,6 +15,7 @@ asked_of (commands.Merge t e traces) = Merges t.now e.now (map string_bytes trac
 asked_of (commands.Show e traces) = Shows e.now (map string_bytes traces.now)
 asked_of (commands.Session e) = Sessions e.now
 asked_of (commands.Demo count) = Demos count
+asked_of (commands.Asm n text) = Assembles n.now text.now
 
 -- what was read is what the words ask
 abbrev pub Reads : Result Command Usage → Result Asked ℕ → Type 0

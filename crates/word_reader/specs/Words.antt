@@ -13,6 +13,7 @@ pub data Asked : Type 0 where
   Shows : (e : List ℕ) → List (List ℕ) → Asked
   Sessions : (e : List ℕ) → Asked
   Demos : ℕ → Asked
+  Assembles : (n text : List ℕ) → Asked
 
 -- a name has at least one byte, and not too many
 abbrev pub is_name : List ℕ → Bool
@@ -123,6 +124,10 @@ abbrev pub demo_words : List (List ℕ) → Result Asked ℕ
 demo_words [] = Err 1
 demo_words (word ∷ words) = or_wrong 1 (number_in DIGIT_LIMIT word) (λ count. demo_count count words)
 
+-- `asm`: the new executable and the source alone
+abbrev pub asm_words : List (List ℕ) → Result Asked ℕ
+asm_words words = next_name 1 words (λ n words. next_name 2 words (λ text words. no_more 3 words (Assembles n text)))
+
 -- by the command's own word
 abbrev pub command_of : List ℕ → List (List ℕ) → Result Asked ℕ
 command_of word words =
@@ -132,7 +137,8 @@ command_of word words =
     cond (bytes_eq word (codes "merge")) (merge_words words) (
     cond (bytes_eq word (codes "show")) (show_words words) (
     cond (bytes_eq word (codes "session")) (session_words words) (
-    cond (bytes_eq word (codes "demo")) (demo_words words) (Err 0)))))))
+    cond (bytes_eq word (codes "demo")) (demo_words words) (
+    cond (bytes_eq word (codes "asm")) (asm_words words) (Err 0))))))))
 
 -- the command of the words, or the position of the first wrong word, or how many words there are where one is missing
 unfoldable pub command : List (List ℕ) → Result Asked ℕ

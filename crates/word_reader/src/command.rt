@@ -1,6 +1,6 @@
 //! Commands.
 ghost use Rattle.std.specs.Prelude.{◌≡◌, map, string_bytes};
-ghost use Rattle.word_reader.specs.Words.{build_words, trace_words, run_words, merge_words, show_words, session_words, demo_words, command};
+ghost use Rattle.word_reader.specs.Words.{build_words, trace_words, run_words, merge_words, show_words, session_words, demo_words, asm_words, command};
 ghost use Rattle.word_reader.specs.Reads.{Reads};
 
 use crate::limits::{DEMO_LIMIT, DIGIT_LIMIT};
@@ -69,6 +69,13 @@ pub enum Command<'a> {
     Demo {
         /// From 1 to [`DEMO_LIMIT`](crate::DEMO_LIMIT).
         count: u32,
+    },
+    /// `asm N TEXT`: assemble a source.
+    Asm {
+        /// The name of the new executable, 1 to [`NAME_LIMIT`](crate::NAME_LIMIT) bytes.
+        n: &'a str,
+        /// The name of the source, 1 to [`NAME_LIMIT`](crate::NAME_LIMIT) bytes.
+        text: &'a str,
     },
 }
 
@@ -154,15 +161,26 @@ fn demo_words(words: &[String]) -> Result<Command<'_>, Usage>
     })
 }
 
+fn asm_words(words: &[String]) -> Result<Command<'_>, Usage>
+    ensures { Reads result (asm_words (map string_bytes words.now)) }
+{
+    let (n, words) = name(words, 1)?;
+    let (text, more) = name(words, 2)?;
+    if !more.is_empty() {
+        return Err(Usage { at: 3 });
+    }
+    Ok(Command::Asm { n, text })
+}
+
 /// Reads the words after the program's name, from left to right. It takes no memory.
 ///
-/// Word 0 is one of `build`, `trace`, `run`, `merge`, `show`, `session`, `demo`. `--steps` and a number of 1 to
+/// Word 0 is one of `build`, `trace`, `run`, `merge`, `show`, `session`, `demo`, `asm`. `--steps` and a number of 1 to
 /// [`DIGIT_LIMIT`](crate::DIGIT_LIMIT) digits may stand at words 1 and 2 of `trace` and `run`, whose default
 /// is [`DEFAULT_STEPS`](crate::DEFAULT_STEPS) steps. A name has 1 to [`NAME_LIMIT`](crate::NAME_LIMIT) bytes.
 /// At most [`TRACE_LIMIT`](crate::TRACE_LIMIT) trace words are fetched. A guest is given at most
 /// [`ARGUMENT_LIMIT`](crate::ARGUMENT_LIMIT) words, and with `guest` before them and a zero byte behind each at
 /// most [`ARGUMENT_BYTES_LIMIT`](crate::ARGUMENT_BYTES_LIMIT) bytes. `session` has one further word, and so has
-/// `demo`, a number from 1 to [`DEMO_LIMIT`](crate::DEMO_LIMIT).
+/// `demo`, a number from 1 to [`DEMO_LIMIT`](crate::DEMO_LIMIT); `asm` has two, both names.
 ///
 /// Errors: [`Usage`] exactly where the words are no command, with the position of the first word that is
 /// wrong, from 0, or the number of words where one is missing.
@@ -181,6 +199,7 @@ pub fn read_words(words: &[String]) -> Result<Command<'_>, Usage>
         "show" => show_words(rest),
         "session" => session_words(rest),
         "demo" => demo_words(rest),
+        "asm" => asm_words(rest),
         _ => Err(Usage { at: 0 }),
     }
 }

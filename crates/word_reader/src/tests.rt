@@ -27,11 +27,15 @@ fn stated_words(rt: HostRuntime) -> Result<(), Fail> {
     assert_eq!(rt; wrong(&rt, &["demo", "1001"])?, 1);
     assert_eq!(rt; wrong(&rt, &["session", "E", "F"])?, 2);
     assert_eq!(rt; wrong(&rt, &["build", "", "E"])?, 1);
+    assert_eq!(rt; wrong(&rt, &["asm", "N"])?, 2);
+    assert_eq!(rt; wrong(&rt, &["asm", "N", ""])?, 2);
+    assert_eq!(rt; wrong(&rt, &["asm", "N", "a", "b"])?, 3);
     assert_eq!(rt; wrong(&rt, &["run", "E", "", "--steps"])?, 9999);
     assert_eq!(rt; wrong(&rt, &["show", "E", "T", "T"])?, 9999);
     assert_eq!(rt; wrong(&rt, &["merge", "T", "E"])?, 9999);
     assert_eq!(rt; wrong(&rt, &["session", "E"])?, 9999);
     assert_eq!(rt; wrong(&rt, &["demo", "1000"])?, 9999);
+    assert_eq!(rt; wrong(&rt, &["asm", "N", "a"])?, 9999);
     Ok(())
 }
 
