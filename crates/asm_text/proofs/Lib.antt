@@ -1,0 +1,5 @@
+mod Found
+mod LabelMaps
+mod Lines
+mod Places
+mod Steps
