@@ -9,11 +9,10 @@ strings are compared, else all of them. Where objdump reads an instruction that 
 and name; everywhere else it must answer `none`. What the subset has stands in `subset.py`, over the bytes and text of objdump.
 Prints the first differences, and last 'N passed, M failed'; status 1 on a difference.
 """
-import argparse, collections, random, shutil, subprocess, sys, tempfile
+import argparse, collections, random, shutil, subprocess, sys
 
+from reading import shown as objdump
 from subset import NAMES, PREFIXES, subset_name
-
-PLACE = 32
 
 # ---- The byte strings ----
 
@@ -55,25 +54,6 @@ def at_random(rng, count):
             yield rng.randbytes(16)
         else:
             yield bytes(rng.choice(likely) for _ in range(rng.randrange(1, 4))) + rng.randbytes(10)
-
-
-def objdump(strings):
-    """What objdump shows at the start of each string: the bytes of the instruction and its text."""
-    with tempfile.NamedTemporaryFile() as f:
-        for s in strings:
-            f.write(s.ljust(PLACE, b"\x90"))
-        f.flush()
-        words = ["objdump", "-D", "-z", "-w", "--insn-width=16", "-b", "binary", "-m", "i386", "-M", "intel", f.name]
-        lines = subprocess.run(words, capture_output=True, text=True, check=True).stdout.splitlines()
-    shown = {}
-    for line in lines:
-        parts = line.split("\t")
-        if len(parts) < 3 or not parts[0].endswith(":"):
-            continue
-        address = int(parts[0][:-1], 16)
-        if address % PLACE == 0:
-            shown[address // PLACE] = bytes.fromhex(parts[1]), parts[2].strip()
-    return [shown.get(k) for k in range(len(strings))]
 
 
 def main():
