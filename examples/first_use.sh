@@ -52,6 +52,7 @@ does 'chmod +x N0'
 does './N0 < one.txt' '2 12 75'
 does 'br build N count T' "built $number $number $number"
 does 'br run N < two.txt' '0 6 23' "exit 0 steps $number undefined $number"
+does 'br info count T N' 'count: an original' '  SHA-256 [0-9a-f]{64}' "  version 1, $number pairs" '  of count' 'N: a file that BinRec wrote' '  made of count'
 does 'chmod +x N'
 does './N < two.txt' '0 6 23'
 does './N o < one.txt' 6

@@ -1,5 +1,5 @@
 """What a report of BinRec means, in words: the cause and the cure of each usage, refusal, limit, fault and `outside`."""
-import os, re, resource, stat
+import os, re, resource, stat, subprocess
 
 import executables
 
@@ -355,3 +355,15 @@ def explain_report(words, status, report, script):
         if re.fullmatch(pattern, report):
             return lines()
     return []
+
+
+def verdict(program, name):
+    """Asks the program whether a file is an original: the lines that say why it is refused, none where it is accepted."""
+    trouble = executables.file_trouble(name)
+    if trouble:
+        return [trouble]
+    done = subprocess.run([program, "show", name], stdin=subprocess.DEVNULL, capture_output=True, text=True)
+    report = done.stderr.strip().split("\n")[-1]
+    if done.returncode == 0:
+        return []
+    return explain(["show", name], done.returncode, report) or [f"the program ended with {done.returncode}: {report}"]

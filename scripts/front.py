@@ -2,6 +2,7 @@
 
 usage: br [--replace] [--force] [--where] COMMAND WORD..      as the command of the program
        br record [--merge | --replace] T E WORD.. runs E for real and stores its trace (br record --help)
+       br info FILE..                             as the script of this name
        br --help | --version
 
 Words and streams go to the program unchanged, and br ends with its status. Before that it refuses to replace a file that nobody can make
@@ -29,6 +30,8 @@ import output
 import session_script
 
 REFUSED, FAILED, NO_PROGRAM = 8, 9, 127
+# Scripts beside br, which it hands on to as if they were commands.
+SCRIPTS = ("info",)
 
 
 def say(text):
@@ -110,6 +113,8 @@ def main():
     if words[:1] in (["--help"], ["-h"]):
         print(__doc__.strip(), *causes.USAGE.values(), sep="\n")
         return 0
+    if words[:1] and words[0] in SCRIPTS:
+        os.execv(os.path.join(os.path.dirname(os.path.abspath(__file__)), words[0]), words)
     chosen = options(words)
     if words[:1] == ["record"]:
         import recording
