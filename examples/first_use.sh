@@ -58,6 +58,7 @@ does './N < two.txt' '0 6 23'
 does './N o < one.txt' 6
 does 'cc32 -o greet greet.c' "none of its $number instructions is outside the subset"
 does 'echo Ada | br run greet "Who is there"' 'Who is there\? Hello, Ada.' "exit 0 steps $number undefined 0"
+does 'coverage --functions --html count.html count T1' "function 080[0-9a-f]{5} print_number: seen $number, not seen $number, .*" "seen $number of $number instructions .*"
 does "printf 'add T1\nemit N\nadd T2\nemit N\nremove 1\nemit N2\n' | br session count" 'added 1' "emitted $number $number $number made $number" 'added 2' 'removed 1' 'lines 6'
 does 'br demo 1' "demo 1 file 137 blocks 7 code $number image $number out 588139be 588139be steps 15 $number"
 

@@ -77,6 +77,5 @@ page
 names
 crates
 counts
-manual
 if scripts/count_definitions.py; then pass; else fail 'the table of definitions'; fi
 finish
