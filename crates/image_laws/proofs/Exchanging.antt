@@ -12,7 +12,7 @@ use Rattle.ia_inst.specs.Meaning.{wrap}
 use Rattle.ia_encode.specs.declared.item.Dest.{Dest}
 use Rattle.ia_encode.specs.declared.item.Dest.TheVariants as dests
 use Rattle.ia_encode.specs.declared.item.Item.{Item}
-use Rattle.ia_encode.specs.Items.{size_of_items, bytes_of_items, dest_at, goes_to, Stands, ItemsStand}
+use Rattle.ia_encode.specs.Items.{size_of_items, bytes_of_items, dest_at, Stands, ItemsStand}
 use Rattle.run_model.specs.Edges.{Edge}
 use Rattle.run_model.specs.Run.{observed}
 use Rattle.block_cut.specs.declared.ends.End.TheVariants.{Island}
@@ -41,7 +41,7 @@ use Rattle.sim_runs.specs.Pieces.{IsLinked}
 use Rattle.sim_runs.specs.Recovered.{is_island_end, is_start_of, knows_of, plan_of}
 use Rattle.sim_runs.specs.Promised.{Exchanges}
 use Rattle.piece_laws.specs.Exchange.{HomesMeet, OpensJoined, ClosesJoined, EntersJoined}
-use Rattle.image_laws.specs.Coded.{key_at, entry_of, address_of, coded_of}
+use Rattle.image_laws.specs.Coded.{key_at, entry_of, address_of, goes_of, coded_of}
 use Rattle.image_laws.specs.Exchanged.{StatesExchanged}
 use Rattle.image_laws.proofs.Places.{JumpLengths, bytes_long}
 use Rattle.image_laws.proofs.Standing.{same_bytes, whole, known, stands, entry_stands}
@@ -182,8 +182,8 @@ module _ (laws : Exchanging) (exe : Exe) (original : IsOriginal exe) (edges : Li
   meet : HomesMeet register_homes plan
   meet = let q = ap length (same_bytes exe edges) in record { are = laws.valid.homes; home = λ v l. refl; here = record { below = omega (arith, q, room); runs = refl } }
 
-  linked_stand : (at : ℕ) (is : List Item) → IsLinked code (address_of exe edges) at is → Stands (dest_at (address_of exe edges) at is) code at is (at + size_of_items is)
-  linked_stand at is k = laws.stand code (goes_to (address_of exe edges)) at is k.front k.behind k.bytes k.place k.valid k.distinct
+  linked_stand : (at : ℕ) (is : List Item) → IsLinked code (goes_of exe edges) at is → Stands (dest_at (address_of exe edges) at is) code at is (at + size_of_items is)
+  linked_stand at is k = laws.stand code (goes_of exe edges) at is k.front k.behind k.bytes k.place k.valid k.distinct
 
   address_small : (y : ℕ) → address_of exe edges y < 2 ^ 32
   address_small y = let bound = low laws.decodes.lengths exe edges y in omega (arith, bound, room)
@@ -206,7 +206,7 @@ module _ (laws : Exchanging) (exe : Exe) (original : IsOriginal exe) (edges : Li
         let v = laws.valid.island register_homes laws.valid.homes (own_of exe x) 0 (next_dest exe edges x) in
         let d = laws.valid.labels register_homes (own_of exe x) 0 (next_dest exe edges x) in
         let k = stands laws.decodes.lengths exe edges x start (subst Rattle.ia_encode.specs.Items.AreValid (sym e) v) (subst Rattle.ia_encode.specs.Items.AreDistinct (sym e) d) in
-        linked_stand at items (subst (IsLinked code (address_of exe edges) at) e k)
+        linked_stand at items (subst (IsLinked code (goes_of exe edges) at) e k)
 
     opens : (t : State) (a : Cells) (cs : List ℕ) → Sees code t a → t.eip ≡ at → AreBits (at_home plan a) → Leads (Opens plan x a) 31 t cs
     opens t a cs s e bits = laws.opening register_homes plan dest meet x 0 (at + size_of_items items) (own_of exe x) (next_dest exe edges x) t a cs native_stands refl s e bits
@@ -232,7 +232,7 @@ module _ (laws : Exchanging) (exe : Exe) (original : IsOriginal exe) (edges : Li
   entry_is b h = ap (entry_items exe.entry) (known exe edges exe.entry ∙ h)
 
   entry_there : (b : Bool) → is_start_of exe edges exe.entry ≡ b → Stands (dest_at (address_of exe edges) CODE_START (entry_items exe.entry b)) code CODE_START (entry_items exe.entry b) (CODE_START + size_of_items (entry_items exe.entry b))
-  entry_there b h = linked_stand CODE_START (entry_items exe.entry b) (subst (IsLinked code (address_of exe edges) CODE_START) (entry_is b h) (entry_stands laws.valid exe edges))
+  entry_there b h = linked_stand CODE_START (entry_items exe.entry b) (subst (IsLinked code (goes_of exe edges) CODE_START) (entry_is b h) (entry_stands laws.valid exe edges))
 
   enters : (t : State) (outer : List Region) (cs : List ℕ) → is_start_of exe edges exe.entry ≡ true → Capturable plan outer t → t.eip ≡ CODE_START → Leads (Captured plan exe.entry outer t) 17 t cs
   enters t outer cs h c e =

@@ -1,5 +1,5 @@
 -- The file: what it is read as, and how long it is.
-use Rattle.std.proofs.Common.{◌≡◌, ℕ, ◌+◌, ◌<◌, ◌≤◌, true, false, ◌&&◌, if◌then◌else◌, List, [], ◌∷◌, ◌++◌, length, refl, sym, ap, ◌∙◌, arith, length-append, lit<, lit≤, ⊎_elim}
+use Rattle.std.proofs.Common.{◌≡◌, ℕ, ◌+◌, ◌*◌, ◌<◌, ◌≤◌, true, false, ◌&&◌, if◌then◌else◌, List, [], ◌∷◌, ◌++◌, length, refl, sym, ap, ◌∙◌, arith, length-append, lit<, lit≤, ⊎_elim}
 use Rattle.std.specs.Prelude.{Ok, ◌||◌}
 use Rattle.std.proofs.lemmas.Bool.{cases_Bool, lt-ltb, eqb-true}
 use Rattle.br_word.specs.Memory.{bytes_of, zeros}
@@ -57,7 +57,7 @@ row_long : (at : ℕ) (s : Segment) (rest : List ℕ) → length (program_header
 unfolding bytes_of
 row_long at s rest = omega arith
 
-table_long : (at : ℕ) (ss : List Segment) (rest : List ℕ) → length rest ≤ length (program_headers at ss rest)
+table_long : (at : ℕ) (ss : List Segment) (rest : List ℕ) → 32 * length ss + length rest ≤ length (program_headers at ss rest)
 table_long at [] rest = omega arith
 table_long at (s ∷ ss) rest =
     let q = table_long (end_after at s) ss rest in
@@ -80,7 +80,7 @@ pieces_long at s ss =
     let r = length-append (piece_of at s) (pieces (end_after at s) ss) in
     omega (arith, q, r)
 
-pub file_long : (exe : Exe) (code : List ℕ) → 52 + length code ≤ length (image_with exe code)
+pub file_long : (exe : Exe) (code : List ℕ) → 52 + 32 * (2 + length exe.segments) + length code ≤ length (image_with exe code)
 unfolding image_with file_of
 file_long exe code =
     let ss = segments_with exe code in

@@ -21,7 +21,7 @@ use Rattle.piece_laws.specs.Choices.{Suits}
 use Rattle.piece_laws.specs.Joined.{ItemsArePieces}
 use Rattle.piece_laws.specs.Pieces.{PiecesDo, pieces_of, set_or_none, IsHome, LiveSets, GoesTo}
 use Rattle.piece_laws.specs.Suited.{SuitsHold}
-use Rattle.image_laws.specs.Coded.{key_at, start_items, coded_of, coding_at}
+use Rattle.image_laws.specs.Coded.{key_at, start_items, goes_of, coded_of, coding_at}
 use Rattle.image_laws.specs.Stands.{CodeStands}
 use Rattle.image_laws.specs.Serves.{HaveBytes, CodingsServe, EachIsLifted}
 use Rattle.image_laws.specs.Made.{FragmentsAreMade, IsMade}
@@ -68,20 +68,21 @@ fragments_made laws exe edges bytes room small made =
     λ x start plain. laws.joined exe edges (key_at exe edges x) (lift_of exe x) (record { distinct = (made x start plain).exits; known = first_of_each (live_of exe edges) (known_of exe (counting exe edges) x) }) (laws.serve exe edges x bytes start plain).kind in
     record {
       pieces = pieces;
-      literal = λ x y. refl;
-      linked = λ x start plain. let m = made x start plain in subst (IsLinked c.code c.address (c.address x)) (parts x start plain) (laws.stands.fragment exe edges x start m.valid m.labels);
+      goes = goes_of exe edges;
+      literal = λ x y n. refl;
+      linked = λ x start plain. let m = made x start plain in subst (IsLinked c.code (goes_of exe edges) (c.address x)) (parts x start plain) (laws.stands.fragment exe edges x start m.valid m.labels);
       run = λ x p t a start plain serves runs.
           let is = fragment_items exe edges (coding_at exe edges x) (pieces x) x in
           let dest = dest_at c.address (c.address x) is in
           let size = ap size_of_items (parts x start plain) in
           let inside = laws.stands.inside exe edges x start in
           let sets : LiveSets (knows_of exe edges x) c.live (key_at exe edges x).exits = λ y k v l. ap (λ o. has (set_or_none o) v) (live_there (live_of exe edges) (known_of exe (counting exe edges) x) y k) in
-          let goes : GoesTo (knows_of exe edges x) c (choice_of exe (key_at exe edges x)).block.exit dest = record {
+          let goes : GoesTo (knows_of exe edges x) c x (choice_of exe (key_at exe edges x)).block.exit dest = record {
             block = λ y. refl;
-            original = λ y. refl;
+            original = λ y out off. refl;
             label = λ l. let q = label_low is (c.address x) l in omega (arith, q, size, inside, room);
             known = λ y k. let q = low laws.lengths exe edges y in omega (arith, q, room);
-            out = outs_small laws.keeps exe edges x (made x start plain).outs;
+            out = λ y out off. outs_small laws.keeps exe edges x (made x start plain).outs y out;
           } in
           laws.run exe edges c x (choice_of exe (key_at exe edges x)) (key_at exe edges x).exits dest home serves (suited laws.suit laws.lifted laws.keeps exe edges x bytes) sets goes p t a runs;
     }

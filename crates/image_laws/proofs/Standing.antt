@@ -22,7 +22,7 @@ use Rattle.code_layout.specs.Keys.{live_of, key_of, keys_of}
 use Rattle.code_layout.specs.Linked.{entry_items, address_in, bytes_at, bytes_from, first_at, linked, fragments_of, has_key, code_of}
 use Rattle.sim_runs.specs.Recovered.{is_start_of}
 use Rattle.sim_runs.specs.Pieces.{IsLinked}
-use Rattle.image_laws.specs.Coded.{key_at, start_items, entry_of, address_of, coded_of}
+use Rattle.image_laws.specs.Coded.{key_at, start_items, entry_of, address_of, goes_of, coded_of}
 use Rattle.image_laws.specs.Stands.{CodeStands}
 use Rattle.image_laws.proofs.Places.{JumpLengths, bytes_long, IsAmong, fragment_at, among}
 
@@ -117,7 +117,7 @@ module _ (laws : JumpLengths) (exe : Exe) (edges : List Edge) (x : ℕ) (start :
       let both = length-append entry_bytes place.front in
       omega (arith, place.place, long, both)
 
-  pub stands : AreValid (start_items exe edges x) → AreDistinct (start_items exe edges x) → IsLinked (coded_of exe edges).code (address_of exe edges) (address_of exe edges x) (start_items exe edges x)
+  pub stands : AreValid (start_items exe edges x) → AreDistinct (start_items exe edges x) → IsLinked (coded_of exe edges).code (goes_of exe edges) (address_of exe edges x) (start_items exe edges x)
   stands valid distinct = record {
     front = entry_bytes ++ place.front;
     behind = place.behind;
@@ -165,7 +165,7 @@ module _ (valid : CodeValid) where
   entry_distinct entry true = closing_distinct (dests.Block entry)
   entry_distinct entry false = tt
 
-  pub entry_stands : (exe : Exe) (edges : List Edge) → IsLinked (coded_of exe edges).code (address_of exe edges) CODE_START (entry_of exe edges)
+  pub entry_stands : (exe : Exe) (edges : List Edge) → IsLinked (coded_of exe edges).code (goes_of exe edges) CODE_START (entry_of exe edges)
   entry_stands exe edges = record {
     front = [];
     behind = bytes_from (address_of exe edges) (first_at (entry_of exe edges)) (fragments_of exe (keys_of exe edges));

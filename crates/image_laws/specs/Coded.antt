@@ -2,8 +2,9 @@
 use Rattle.std.specs.Prelude.{ℕ, ◌+◌, false, List}
 use Rattle.elf_read.specs.declared.exe.Exe.{Exe}
 use Rattle.elf_read.specs.Regions.{region_of}
+use Rattle.ia_encode.specs.declared.item.Dest.{Dest}
 use Rattle.ia_encode.specs.declared.item.Item.{Item}
-use Rattle.ia_encode.specs.Items.{size_of_items}
+use Rattle.ia_encode.specs.Items.{size_of_items, goes_to}
 use Rattle.run_model.specs.Edges.{Edge}
 use Rattle.block_cut.specs.CountedEdges.{counting}
 use Rattle.flow_graph.specs.Graph.{known_of}
@@ -34,6 +35,10 @@ entry_of exe edges = entry_items exe.entry (has_key (keys_of exe edges) exe.entr
 -- where the fragment of a start stands
 abbrev pub address_of : Exe → List Edge → ℕ → ℕ
 address_of exe edges = address_in (first_at (entry_of exe edges)) (fragments_of exe (keys_of exe edges))
+
+-- where destinations lie: fragments at their addresses, an address of the original at itself
+abbrev pub goes_of : Exe → List Edge → Dest → ℕ
+goes_of exe edges = goes_to (address_of exe edges)
 
 -- the recovered code; the own bytes of a native instruction stand behind the way into it, no other instruction is
 -- copied, and an exit that is not known leads to the original

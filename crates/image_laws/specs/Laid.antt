@@ -1,5 +1,5 @@
 -- The file of an original and edges as it is laid out.
-use Rattle.std.specs.Prelude.{◌+◌, ◌≤◌, List, length}
+use Rattle.std.specs.Prelude.{◌+◌, ◌*◌, ◌≤◌, List, length}
 use Rattle.elf_read.specs.declared.exe.Exe.{Exe}
 use Rattle.elf_read.specs.Elf.{IsOriginal}
 use Rattle.run_model.specs.Edges.{Edge}
@@ -16,6 +16,8 @@ abbrev pub ImagesLaid : Type 0
 ImagesLaid = (exe : Exe) (edges : List Edge) → IsOriginal exe → length (code_of exe edges) ≤ MAX_CODE
     → IsLaid exe (plan_of exe edges (coded_of exe edges)) (image exe edges)
 
--- the file has a header of 52 bytes, and the code
+-- the file has a header of 52 bytes, one of 32 for each segment, the code's and the private one with them, and the code
+-- (ELF, the ELF header and the program header of 32 bits)
 abbrev pub ImagesHold : Type 0
-ImagesHold = (exe : Exe) (edges : List Edge) → 52 + length (code_of exe edges) ≤ length (image exe edges)
+ImagesHold = (exe : Exe) (edges : List Edge)
+    → 52 + 32 * (2 + length exe.segments) + length (code_of exe edges) ≤ length (image exe edges)

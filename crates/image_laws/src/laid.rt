@@ -20,7 +20,7 @@ pub fn images_laid()
     sets_are_narrow();
 }
 
-/// The file has a header of 52 bytes, and the code.
+/// The file has a header of 52 bytes, one of 32 for each segment, and the code.
 pub fn images_hold()
     ensures { ImagesHold }
 {}

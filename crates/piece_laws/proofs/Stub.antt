@@ -17,7 +17,7 @@ use Rattle.ia_encode.specs.declared.item.Dest.{Dest}
 use Rattle.ia_encode.specs.declared.item.Dest.TheVariants.{Block as ToBlock, Original as ToOriginal}
 use Rattle.ia_encode.specs.declared.item.Item.TheVariants.{Jump}
 use Rattle.ia_encode.specs.Items.{size_of_items}
-use Rattle.code_laws.specs.Seen.{Cells, Sees, private_region}
+use Rattle.code_laws.specs.Seen.{Cells, Sees, private_region, word}
 use Rattle.code_laws.specs.Exchange.{FlagsHeld}
 use Rattle.code_laws.specs.Exchange as exchange
 use Rattle.code_laws.specs.Placed.{Holds, Left, IsVal, IsNamed}
@@ -30,11 +30,10 @@ use Rattle.block_make.specs.Choices.{Choice, place_in}
 use Rattle.block_make.specs.Keys.{has}
 use Rattle.block_make.specs.FragmentItems.{lines_items, moves_items, regain_items, stub_items, tail_items}
 use Rattle.sim_runs.specs.Relation.{Plan}
-use Rattle.sim_runs.specs.Laws.{Restored}
 use Rattle.sim_runs.specs.Coding.{Exits, out_at, NamedLater}
 use Rattle.sim_runs.specs.Recovered.{Coded}
 use Rattle.sim_runs.specs.Passes.{Gets, StandsFrom, Passes, count_of}
-use Rattle.sim_runs.specs.Pieces.{Held, Tailed}
+use Rattle.sim_runs.specs.Pieces.{Held, Tailed, Returned}
 use Rattle.sim_runs.proofs.Pass.{gets_then, gets_map, size_cut, stands_cut, count_cut}
 use Rattle.piece_laws.specs.Choices.{coding_of, Suits}
 use Rattle.piece_laws.proofs.Named.{named_it}
@@ -55,11 +54,14 @@ IsEnd c (Param v) = v < 14
 IsEnd c (Named j) = (is_in c.split.body j ≡ true) × NamedLater c.block j (sunk_of c)
 IsEnd c (Num n) = Unit {0}
 
--- registers and flags are the numbers, memory is this, and the slot of jumps as before
+-- registers and flags are the numbers, memory is this, the slots of flags hold bits, that of DF its bit, and the slot
+-- of jumps is as before
 pub record Regained (g : ℕ → ℕ) (outer : List Region) (b d : Cells) : Type 0 where
   pub regs : (v : ℕ) → v < 8 → d.cell (Reg v) ≡ g v
   pub flags : (f : Flag) → bit (flag_of f d.flags) ≡ g (number f)
   pub df : bit d.df ≡ g 13
+  pub flag_slots : (f : Flag) → d.cell (Slot (number f)) < 2
+  pub df_slot : d.cell (Slot 13) ≡ bit d.df
   pub outer_is : d.outer ≡ outer
   pub seen : d.seen ≡ b.seen
   pub brk_start : d.brk_start ≡ b.brk_start
@@ -102,6 +104,8 @@ module _ (c : Coded) (below : Below c.code) (homes : (v : ℕ) → c.home v ≡ 
       regs = λ v l. w.registers v l ∙ home v (omega arith);
       flags = flags;
       df = w.df ∙ home 13 (omega arith);
+      flag_slots = flag_slots;
+      df_slot = w.others 13 (omega arith) ∙ sym w.df;
       outer_is = w.besides.outer ∙ m.besides.outer ∙ h.holds.mem;
       seen = w.besides.seen ∙ m.besides.seen ∙ h.seen;
       brk_start = w.besides.brk_start ∙ m.besides.brk_start ∙ h.brk_start;
@@ -121,6 +125,16 @@ module _ (c : Coded) (below : Below c.code) (homes : (v : ℕ) → c.home v ≡ 
         flags ZF = w.zf ∙ home 10 (omega arith)
         flags SF = w.sf ∙ home 11 (omega arith)
         flags OF = w.of ∙ home 12 (omega arith)
+
+        bits_held : FlagsHeld r
+        bits_held = flags_held q r h.holds m
+
+        flag_slots : (f : Flag) → z.cell (Slot (number f)) < 2
+        flag_slots CF = subst (λ n. n < 2) (sym (w.others 8 (omega arith))) bits_held.cf
+        flag_slots PF = subst (λ n. n < 2) (sym (w.others 9 (omega arith))) bits_held.pf
+        flag_slots ZF = subst (λ n. n < 2) (sym (w.others 10 (omega arith))) bits_held.zf
+        flag_slots SF = subst (λ n. n < 2) (sym (w.others 11 (omega arith))) bits_held.sf
+        flag_slots OF = subst (λ n. n < 2) (sym (w.others 12 (omega arith))) bits_held.of
 
     pub regain_gets : (label : ℕ) (b : Cells) (at : ℕ) (u : State) (cs : List ℕ) → StandsFrom dest c.code at (regain_items choice label) → Sees c.code u b → u.eip ≡ at → Holds limit home_of place ready.after (sunk_of choice) env b →
         Gets (Gained b (at + size_of_items (regain_items choice label))) 0 (count_of (regain_items choice label)) u cs
@@ -154,32 +168,47 @@ module _ (c : Coded) (below : Below c.code) (homes : (v : ℕ) → c.home v ≡ 
     }
 
     module _ (plan : Plan) (same_code : c.code ≡ plan.code) where
-      pub restored : (a b : Cells) (to y : ℕ) (t : State) → b.seen ≡ a.seen → b.brk_start ≡ a.brk_start → b.brk ≡ a.brk → Gained b to t → (at : ℕ) → at ≡ y → Restored plan y out whole.mem a (record t { eip = at })
-      restored a b to y t p q r d at e = record {
-        own = d.sees.own;
-        size = d.sees.slots.size;
-        mem = d.sees.regions ∙ ap (λ m. c.code ∷ private_region d.sees.own ∷ m) d.holds.outer_is ∙ ap (λ x. x ∷ private_region d.sees.own ∷ whole.mem) same_code;
-        count = d.sees.regs.count;
-        regs = λ v l. d.sees.regs.each v l ∙ d.holds.regs v l;
-        flags = λ f. ap (λ g. bit (flag_of f g)) d.sees.flags ∙ d.holds.flags f;
-        df = ap bit d.sees.df ∙ d.holds.df;
-        eip = e;
-        shows = d.sees.seen ∙ d.holds.seen ∙ p;
-        brk_start = d.sees.brk_start ∙ d.holds.brk_start ∙ q;
-        brk = d.sees.brk ∙ d.holds.brk ∙ r;
+      flag_words : (own : List ℕ) (d : Cells) → ((k : ℕ) → k < 16384 → word own k ≡ d.cell (Slot k)) → ((f : Flag) → d.cell (Slot (number f)) < 2) → (f : Flag) → word own (number f) < 2
+      flag_words own d same held CF = subst (λ n. n < 2) (sym (same 8 (omega arith))) (held CF)
+      flag_words own d same held PF = subst (λ n. n < 2) (sym (same 9 (omega arith))) (held PF)
+      flag_words own d same held ZF = subst (λ n. n < 2) (sym (same 10 (omega arith))) (held ZF)
+      flag_words own d same held SF = subst (λ n. n < 2) (sym (same 11 (omega arith))) (held SF)
+      flag_words own d same held OF = subst (λ n. n < 2) (sym (same 12 (omega arith))) (held OF)
+
+      pub returned : (a b : Cells) (to y : ℕ) (t : State) → b.seen ≡ a.seen → b.brk_start ≡ a.brk_start → b.brk ≡ a.brk → Gained b to t → (at : ℕ) → at ≡ y → Returned plan y out whole.mem a (record t { eip = at })
+      returned a b to y t p q r d at e = record {
+        restored = record {
+          own = d.sees.own;
+          size = d.sees.slots.size;
+          mem = d.sees.regions ∙ ap (λ m. c.code ∷ private_region d.sees.own ∷ m) d.holds.outer_is ∙ ap (λ x. x ∷ private_region d.sees.own ∷ whole.mem) same_code;
+          count = d.sees.regs.count;
+          regs = λ v l. d.sees.regs.each v l ∙ d.holds.regs v l;
+          flags = λ f. ap (λ g. bit (flag_of f g)) d.sees.flags ∙ d.holds.flags f;
+          df = ap bit d.sees.df ∙ d.holds.df;
+          eip = e;
+          shows = d.sees.seen ∙ d.holds.seen ∙ p;
+          brk_start = d.sees.brk_start ∙ d.holds.brk_start ∙ q;
+          brk = d.sees.brk ∙ d.holds.brk ∙ r;
+        };
+        ready = record {
+          size = d.sees.slots.size;
+          bytes = d.sees.slots.bytes;
+          df_word = d.sees.slots.words 13 (omega arith) ∙ d.holds.df_slot ∙ sym (ap bit d.sees.df);
+          flags = flag_words d.sees.own d.cells d.sees.slots.words d.holds.flag_slots;
+        };
       }
 
-      pub stub_passes : (a : Cells) (label y : ℕ) → ((v : ℕ) → env.params v ≡ a.cell (c.home v)) → dest (ToOriginal y) ≡ y → y < 2 ^ 32 → Passes dest c.code (stub_items choice label y) (Held c (coding_of choice) env a) (Restored plan y out whole.mem a)
-      stub_passes a label y params to low at u cs s h =
+      pub stub_passes : (a : Cells) (label y goal : ℕ) → ((v : ℕ) → env.params v ≡ a.cell (c.home v)) → dest (ToOriginal y) ≡ goal → goal < 2 ^ 32 → Passes dest c.code (stub_items choice label y) (Held c (coding_of choice) env a) (Returned plan goal out whole.mem a)
+      stub_passes a label y goal params to low at u cs s h =
           let is = regain_items choice label in
           let js = Jump None (ToOriginal y) ∷ [] in
           let b = h.cells in
           let d = stands_cut dest c.code is js at s in
           let n = count_cut dest c.code is js in
-          let Q = Restored plan y out whole.mem a in
+          let Q = Returned plan goal out whole.mem a in
           gets_map Q Q 1 1 (count_of is + 1) _ u cs (omega arith) (omega (arith, n)) (λ t g. g)
           (gets_then (Gained b (at + size_of_items is)) Q 0 1 _ _ u cs (regain_gets label b at u cs d.0 h.sees h.eip (sunk_holds a at u params h))
-          (λ t ds g. gets_map _ Q 1 1 1 1 t ds (omega arith) (omega arith) (λ w e. subst Q (sym e) (restored a b (at + size_of_items is) y t h.stays.shows h.stays.brk_start h.stays.brk g (dest (ToOriginal y)) to))
+          (λ t ds g. gets_map _ Q 1 1 1 1 t ds (omega arith) (omega arith) (λ w e. subst Q (sym e) (returned a b (at + size_of_items is) goal t h.stays.shows h.stays.brk_start h.stays.brk g (dest (ToOriginal y)) to))
           (jump_gets c.code below dest (ToOriginal y) g.cells (at + size_of_items is) t ds (omega (arith, to, low)) d.1 g.sees g.eip)))
 
   -- ---- into a known block

@@ -32,16 +32,15 @@ use Rattle.block_make.specs.declared.fragment.TheConstants.{JUMP_SLOT}
 use Rattle.block_make.specs.Choices.{Choice, place_in}
 use Rattle.block_make.specs.FragmentItems.{source_in, regain_items, aim_items, way_stub_items}
 use Rattle.sim_runs.specs.Relation.{Plan}
-use Rattle.sim_runs.specs.Laws.{Restored}
 use Rattle.sim_runs.specs.Coding.{Exits}
 use Rattle.sim_runs.specs.Recovered.{Coded}
 use Rattle.sim_runs.specs.Passes.{Gets, StandsFrom, Passes, count_of}
-use Rattle.sim_runs.specs.Pieces.{Held, Aimed}
+use Rattle.sim_runs.specs.Pieces.{Held, Aimed, Returned}
 use Rattle.sim_runs.proofs.Pass.{gets_then, gets_map, stands_cut, count_cut}
 use Rattle.piece_laws.specs.Choices.{coding_of, Suits}
 use Rattle.piece_laws.proofs.Served.{sunk_of, Ready}
 use Rattle.piece_laws.proofs.Steps.{Below, gets_of, puts_stand}
-use Rattle.piece_laws.proofs.Stub.{IsEnd, end_value, regain_gets, sunk_holds, restored}
+use Rattle.piece_laws.proofs.Stub.{IsEnd, end_value, regain_gets, sunk_holds, returned}
 
 module _ (c : Coded) (below : Below c.code) (homes : (v : ℕ) → c.home v ≡ home_of v) (exits : Exits) (choice : Choice) (ready : Ready choice exits) (suits : Suits choice) (are : AreOuts (length choice.block.lines) choice.block.outs) (dest : Dest → ℕ) (env : Env) (a : Cells) (params : (v : ℕ) → env.params v ≡ a.cell (c.home v)) where
   abbrev At : ℕ → State → Type 0
@@ -140,7 +139,7 @@ module _ (c : Coded) (below : Below c.code) (homes : (v : ℕ) → c.home v ≡ 
   -- ---- the side exit of an indirect exit
   module _ (unknown : exits.unknown ≡ true) (bytes : HoldBytes env.mem) (allowed : AllAllowed (sunk_of choice) env) (bits : AreBits (outs_of choice.block.outs (fold (sunk_of choice) env))) (plan : Plan) (same_code : c.code ≡ plan.code) where
     abbrev Out : ℕ → State → Type 0
-    Out target = Restored plan target (outs_of choice.block.outs (fold (sunk_of choice) env)) (fold (sunk_of choice) env).mem a
+    Out target = Returned plan target (outs_of choice.block.outs (fold (sunk_of choice) env)) (fold (sunk_of choice) env).mem a
 
     abbrev behind : List Item
     behind = regain_items choice 0 ++ (Put (JmpRm (rm_of (Slot JUMP_SLOT))) ∷ [])
@@ -177,7 +176,7 @@ module _ (c : Coded) (below : Below c.code) (homes : (v : ℕ) → c.home v ≡ 
         let same : held_on.cells.cell (Slot JUMP_SLOT) ≡ v = q.holds.value in
         let is_to : to ≡ target = g.holds.spared ∙ same ∙ is_v in
         gets_map (λ r. r ≡ record w { eip = to }) Q 1 1 1 1 w es (omega arith) (omega arith)
-        (λ r e. subst Q (sym e) (restored c below homes exits choice ready suits are dest env unknown bytes allowed bits plan same_code a held_on.cells two target w held_on.stays.shows held_on.stays.brk_start held_on.stays.brk g to is_to))
+        (λ r e. subst Q (sym e) (returned c below homes exits choice ready suits are dest env unknown bytes allowed bits plan same_code a held_on.cells two target w held_on.stays.shows held_on.stays.brk_start held_on.stays.brk g to is_to))
         (gets_of g.cells.seen (λ r. r ≡ record w { eip = to }) 1 1 1 w es g.sees.seen (λ r e. ap observed e ∙ g.sees.seen) (omega arith) (omega arith)
         ((below.jumps dest).by_slot w g.cells JUMP_SLOT es g.sees (omega arith) (subst (λ p. Reads c.code p jump (length (canonical jump))) (sym g.eip) f.1.0))))))
       where

@@ -40,10 +40,9 @@ use Rattle.sim_runs.specs.Lines.{NamedIn, IsSunk, AllSunk}
 use Rattle.sim_runs.specs.Coding.{out_at, Coding, Exits, SameKind, ExitIn, NamesIt, ExitNames, EndNames, NamedLater}
 use Rattle.sim_runs.specs.Recovered.{Coded, knows_of, plan_of}
 use Rattle.sim_runs.specs.Relation.{Plan}
-use Rattle.sim_runs.specs.Laws.{Restored}
 use Rattle.sim_runs.specs.Promised.{is_live_at, is_unknown, exits_of, ServesAt, Runs}
 use Rattle.sim_runs.specs.Passes.{Gets, StandsFrom, Passes, count_of}
-use Rattle.sim_runs.specs.Pieces.{Held, Aimed, is_out, is_way, is_cond, test_of, body_end, whole_end, PiecesRun}
+use Rattle.sim_runs.specs.Pieces.{Held, Aimed, is_out, is_way, is_cond, test_of, body_end, whole_end, Returned, PiecesRun}
 use Rattle.sim_runs.specs.Given.{Given, CodingGives}
 use Rattle.piece_laws.specs.Choices.{coding_of, Suits}
 use Rattle.piece_laws.specs.Pieces.{set_of, label_of, ask_of, aim_of, way_of, pieces_of, IsHome, LiveSets, GoesTo}
@@ -137,7 +136,7 @@ live_known live (z ∷ ys) y v h l = go (y == z) refl h (λ k. live_known live y
     go true e k rest = ap (λ b. b || is_live_at live ys v) (ap (λ u. live u v) (sym (eqb-true y z e)) ∙ l)
     go false e k rest = later (live z v) (is_live_at live ys v) (rest k)
 
-module _ (exe : Exe) (edges : List Edge) (c : Coded) (x : ℕ) (choice : Choice) (known : List (ℕ × ℕ)) (dest : Dest → ℕ) (at_home : IsHome c) (below : Below c.code) (gives : CodingGives) (serves : ServesAt exe edges c x (coding_of choice)) (suits : Suits choice) (live : LiveSets (knows_of exe edges x) c.live known) (goes : GoesTo (knows_of exe edges x) c choice.block.exit dest) (p : ℕ → ℕ) (t : State) (a : Cells) (runs : Runs exe c x p t a) where
+module _ (exe : Exe) (edges : List Edge) (c : Coded) (x : ℕ) (choice : Choice) (known : List (ℕ × ℕ)) (dest : Dest → ℕ) (at_home : IsHome c) (below : Below c.code) (gives : CodingGives) (serves : ServesAt exe edges c x (coding_of choice)) (suits : Suits choice) (live : LiveSets (knows_of exe edges x) c.live known) (goes : GoesTo (knows_of exe edges x) c x choice.block.exit dest) (p : ℕ → ℕ) (t : State) (a : Cells) (runs : Runs exe c x p t a) where
   abbrev k : Coding
   k = coding_of choice
 
@@ -220,7 +219,7 @@ module _ (exe : Exe) (edges : List Edge) (c : Coded) (x : ℕ) (choice : Choice)
   aimed (Island m) q h i e at u cs s g = absurd (true≢false (sym e))
 
   left : (w : Exit) → choice.block.exit ≡ w → ExitChecks choice.block suits.checked suits.words w → ExitIn (c.live x) k.body w → is_way w ≡ true → exits.unknown ≡ true →
-      Passes dest c.code (way_of choice w) (Aimed c k env a (exit_of w env)) (Restored plan (exit_of w env) (outs_of choice.block.outs whole) whole.mem a)
+      Passes dest c.code (way_of choice w) (Aimed c k env a (exit_of w env)) (Returned plan (exit_of w env) (outs_of choice.block.outs whole) whole.mem a)
   left (Jump to) q h i e un at u cs s g = absurd (true≢false (sym e))
   left (Cond v taken next) q h i e un at u cs s g = absurd (true≢false (sym e))
   left (Way v) q h i e un at u cs s g =
@@ -231,13 +230,13 @@ module _ (exe : Exe) (edges : List Edge) (c : Coded) (x : ℕ) (choice : Choice)
   out_end : (y : ℕ) → knows y ≡ true → (v : ℕ) → v < 14 → c.live y v ≡ true → IsEnd choice (out_at choice.block v)
   out_end y on v l alive = is_end (out_at choice.block v) (out_checks choice.block suits.checked suits.words v) (serves.outs v l (live_known c.live (known_of exe (counting exe edges) x) y v on alive)) (λ j n. inr (v, l, n))
 
-  pub pieces_run : PiecesRun dest plan c k (pieces_of choice known) knows a env whole
+  pub pieces_run : PiecesRun dest plan c x k (pieces_of choice known) knows a env whole
   pieces_run =
       let h = exit_checks choice.block suits.checked suits.words in
       record {
         body = λ at u cs s sees e. body_held c below at_home.home exits choice here a runs.high runs.bytes given.allowed dest at u cs s sees e;
         tail = λ y on. tail_passes c below at_home.home exits choice here suits are dest env a params y (set_of known y) (live y on) (out_end y on) (goes.block y) (goes.known y on);
-        stub = λ l y out off. let u = out_unknown knows (lift_of exe x).exit choice.block.exit y serves.kind out off in stub_passes c below at_home.home exits choice here suits are dest env u bytes (sunk u) (bits u) plan refl a l y params (goes.original y) (goes.out y out);
+        stub = λ l y out off. let u = out_unknown knows (lift_of exe x).exit choice.block.exit y serves.kind out off in stub_passes c below at_home.home exits choice here suits are dest env u bytes (sunk u) (bits u) plan refl a l y (plan.beyond x y) params (goes.original y out off) (goes.out y out off);
         ask = λ e at u cs s g. asked choice.block.exit refl h serves.exit e at u cs s g;
         aim = λ e at u cs s g. aimed choice.block.exit refl h serves.exit e at u cs s g;
         meets = λ e y at u cs s m.

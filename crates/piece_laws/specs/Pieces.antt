@@ -1,5 +1,5 @@
 -- The pieces of a fragment, in the words of block_make, and that they do what they have to.
-use Rattle.std.specs.Prelude.{◌≡◌, ℕ, suc, ◌^◌, ◌<◌, ◌==◌, Bool, true, List, [], ◌∷◌, Option, Some, None, get_or, if◌then◌else◌}
+use Rattle.std.specs.Prelude.{◌≡◌, ℕ, suc, ◌^◌, ◌<◌, ◌==◌, Bool, true, false, List, [], ◌∷◌, Option, Some, None, get_or, if◌then◌else◌}
 use Rattle.br_word.specs.declared.types.Width.TheVariants.{B32}
 use Rattle.br_word.specs.State.{State}
 use Rattle.elf_read.specs.declared.exe.Exe.{Exe}
@@ -84,13 +84,14 @@ pub record IsHome (c : Coded) : Type 0 where
 abbrev pub LiveSets : (ℕ → Bool) → (ℕ → ℕ → Bool) → List (ℕ × ℕ) → Type 0
 LiveSets knows live exits = (y : ℕ) → knows y ≡ true → (v : ℕ) → v < 14 → has (set_of exits y) v ≡ live y v
 
--- blocks and addresses of the original lie where the code says, and those that are jumped to have 32 bits
-pub record GoesTo (knows : ℕ → Bool) (c : Coded) (exit : Exit) (dest : Dest → ℕ) : Type 0 where
+-- of the block of x: blocks, and what lies beyond its direct exits that are not known, lie where the code says, and
+-- addresses that are jumped to have 32 bits
+pub record GoesTo (knows : ℕ → Bool) (c : Coded) (x : ℕ) (exit : Exit) (dest : Dest → ℕ) : Type 0 where
   pub block : (y : ℕ) → dest (dests.Block y) ≡ c.address y
-  pub original : (y : ℕ) → dest (dests.Original y) ≡ y
+  pub original : (y : ℕ) → is_out exit y ≡ true → knows y ≡ false → dest (dests.Original y) ≡ c.beyond x y
   pub label : (l : ℕ) → dest (dests.Label l) < 2 ^ 32
   pub known : (y : ℕ) → knows y ≡ true → c.address y < 2 ^ 32
-  pub out : (y : ℕ) → is_out exit y ≡ true → y < 2 ^ 32
+  pub out : (y : ℕ) → is_out exit y ≡ true → knows y ≡ false → c.beyond x y < 2 ^ 32
 
 -- ---- the law
 
@@ -98,7 +99,7 @@ pub record GoesTo (knows : ℕ → Bool) (c : Coded) (exit : Exit) (dest : Dest 
 abbrev pub PiecesDo : Type 0
 PiecesDo = (exe : Exe) (edges : List Edge) (c : Coded) (x : ℕ) (choice : Choice) (exits : List (ℕ × ℕ)) (dest : Dest → ℕ)
     → IsHome c → ServesAt exe edges c x (coding_of choice) → Suits choice
-    → LiveSets (knows_of exe edges x) c.live exits → GoesTo (knows_of exe edges x) c choice.block.exit dest
+    → LiveSets (knows_of exe edges x) c.live exits → GoesTo (knows_of exe edges x) c x choice.block.exit dest
     → (p : ℕ → ℕ) (t : State) (a : Cells) → Runs exe c x p t a
-    → PiecesRun dest (plan_of exe edges c) c (coding_of choice) (pieces_of choice exits) (knows_of exe edges x) a
+    → PiecesRun dest (plan_of exe edges c) c x (coding_of choice) (pieces_of choice exits) (knows_of exe edges x) a
     (body_end (coding_of choice) (λ v. a.cell (c.home v)) a.outer) (whole_end (coding_of choice) (λ v. a.cell (c.home v)) a.outer)

@@ -23,7 +23,7 @@ use Rattle.sim_runs.specs.Coding.{Coding}
 use Rattle.sim_runs.specs.Promised.{FragmentRuns}
 use Rattle.sim_runs.specs.Passes.{count_of, chain, tails, is_in}
 use Rattle.sim_runs.specs.Pieces.{Pieces, part_of, exit_items, ExitWithin, fragment_items, FragmentsMade, PathsWithin, FragmentsRun}
-use Rattle.ia_encode.specs.Items.{dest_at, goes_to}
+use Rattle.ia_encode.specs.Items.{with_labels}
 use Rattle.sim_runs.proofs.Pass.{gets_map, gets_leads}
 use Rattle.sim_runs.proofs.Pieces.{pieces_pass}
 
@@ -103,11 +103,11 @@ module _ (laws : Encodes) where
       let pieces = made.pieces x in
       let is = fragment_items exe edges (coding x) pieces x in
       let k = made.linked x start plain in
-      let dest = dest_at c.address (c.address x) is in
-      let stands = laws.stand c.code (goes_to c.address) (c.address x) is k.front k.behind k.bytes k.place k.valid k.distinct in
+      let dest = with_labels made.goes (c.address x) is in
+      let stands = laws.stand c.code made.goes (c.address x) is k.front k.behind k.bytes k.place k.valid k.distinct in
       let run = made.run x p t a start plain serves h in
       let path = paths x start plain in
-      let g = pieces_pass dest exe edges c x (coding x) serves p a h.small h.bytes h.allowed h.homes pieces run h.home_bits h.out_bits (made.literal x) path.exit path.ways (c.address x) t cs stands (h.sees, h.eip) in
+      let g = pieces_pass dest exe edges c x (coding x) serves p a h.small h.bytes h.allowed h.homes pieces run (made.literal x) h.home_bits h.out_bits path.exit path.ways (c.address x) t cs stands (h.sees, h.eip) in
       gets_leads _ _ t cs (gets_map _ (λ u. Arrives (plan_of exe edges c) x p a u ⊎ Leaves (plan_of exe edges c) x p a u) 1 1 _ high t cs (omega arith) path.fits (λ u h. h) g)
 
   by_length : (exe : Exe) (edges : List Edge) (c : Coded) (coding : ℕ → Coding) → FragmentsMade exe edges c coding → FragmentRuns exe edges c coding (length c.code.bytes)
@@ -115,7 +115,7 @@ module _ (laws : Encodes) where
       let pieces = made.pieces x in
       let is = fragment_items exe edges (coding x) pieces x in
       let k = made.linked x start plain in
-      let dest = dest_at c.address (c.address x) is in
+      let dest = with_labels made.goes (c.address x) is in
       let long : length c.code.bytes ≡ length k.front + (length (bytes_of_items dest (c.address x) is) + length k.behind) =
       ap length k.bytes ∙ length-append k.front (bytes_of_items dest (c.address x) is ++ k.behind) ∙ ap (λ n. length k.front + n) (length-append (bytes_of_items dest (c.address x) is) k.behind) in
       let size = bytes_long dest is (c.address x) in

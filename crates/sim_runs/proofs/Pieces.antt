@@ -22,13 +22,13 @@ use Rattle.ssa_form.specs.Same.{AreSmall, end_env, IsAllowedAt}
 use Rattle.ssa_form.specs.Value.{Env, value, outs_of, exit_of}
 use Rattle.code_laws.specs.Seen.{Cells, Sees, private_region}
 use Rattle.sim_runs.specs.Relation.{Plan}
-use Rattle.sim_runs.specs.Laws.{Restored, Arrives, Leaves}
+use Rattle.sim_runs.specs.Laws.{Arrives, Leaves}
 use Rattle.sim_runs.specs.Coding.{SameKind, Coding, Serves}
 use Rattle.sim_runs.specs.WholeBlock.{IsWay}
 use Rattle.sim_runs.specs.Recovered.{Coded, knows_of, plan_of}
 use Rattle.sim_runs.specs.Promised.{exits_of}
 use Rattle.sim_runs.specs.Passes.{Gets, StandsFrom, Passes, PassesIn, count_of, is_in}
-use Rattle.sim_runs.specs.Pieces.{Pieces, part_of, exit_items, ExitWithin, Held, Tailed, Aimed, is_cond, is_way, is_out, test_of, PiecesRun}
+use Rattle.sim_runs.specs.Pieces.{Pieces, part_of, exit_items, ExitWithin, Held, Tailed, Aimed, is_cond, is_way, is_out, test_of, Returned, PiecesRun}
 use Rattle.sim_runs.proofs.Pass.{gets_map, body_then, cond_serves, way_serves}
 use Rattle.sim_runs.proofs.Coding.{body_env, body_memory, body_exit, whole_env, whole_memory}
 use Rattle.sim_runs.proofs.Ends.{known_outs, all_outs, unknown_taken}
@@ -75,16 +75,16 @@ module _ (dest : Dest → ℕ) (exe : Exe) (edges : List Edge) (c : Coded) (x : 
   abbrev taken : ℕ
   taken = exit_of (lift_of exe x).exit (end_env (lift_of exe x) p a.outer)
 
-  module _ (pieces : Pieces) (run : PiecesRun dest plan c k pieces knows a env whole) where
+  module _ (pieces : Pieces) (run : PiecesRun dest plan c x k pieces knows a env whole) (literal : (y : ℕ) → is_out k.block.exit y ≡ false → c.beyond x y ≡ y) where
     abbrev End : ℕ → State → Type 0
-    End y u = ((knows y ≡ true) × Tailed c k env a y u) ⊎ ((knows y ≡ false) × Restored plan y (outs_of k.block.outs whole) whole.mem a u)
+    End y u = ((knows y ≡ true) × Tailed c k env a y u) ⊎ ((knows y ≡ false) × Returned plan (c.beyond x y) (outs_of k.block.outs whole) whole.mem a u)
 
     part : (l y : ℕ) → is_out k.block.exit y ≡ true → Passes dest c.code (part_of knows pieces l y) (Held c k env a) (End y)
     part l y out = go (knows y) refl
       where
         go : (b : Bool) → knows y ≡ b → Passes dest c.code (if b then pieces.tail y else pieces.stub l y) (Held c k env a) (End y)
         go true h = λ at u cs s q. gets_map (Tailed c k env a y) (End y) 1 1 _ _ u cs (omega arith) (omega arith) (λ w t. inl (h, t)) (run.tail y h at u cs s q)
-        go false h = λ at u cs s q. gets_map (Restored plan y (outs_of k.block.outs whole) whole.mem a) (End y) 1 1 _ _ u cs (omega arith) (omega arith) (λ w t. inr (h, t)) (run.stub l y out h at u cs s q)
+        go false h = λ at u cs s q. gets_map (Returned plan (c.beyond x y) (outs_of k.block.outs whole) whole.mem a) (End y) 1 1 _ _ u cs (omega arith) (omega arith) (λ w t. inr (h, t)) (run.stub l y out h at u cs s q)
 
     within : (is : List Item) (n : ℕ) (Q : State → Type 0) → count_of is ≤ n → Passes dest c.code is (Held c k env a) Q → PassesIn dest c.code is n (Held c k env a) Q
     within is n Q few g at u cs s h = gets_map Q Q 1 1 (count_of is) n u cs (omega arith) few (λ w h. h) (g at u cs s h)
@@ -108,7 +108,7 @@ module _ (dest : Dest → ℕ) (exe : Exe) (edges : List Edge) (c : Coded) (x : 
         let z : exit_of k.block.exit env ≡ value env v = ap (λ w. exit_of w env) q in
         subst (λ y. PassesIn dest c.code (exit_items knows ys pieces (Way v)) n (Held c k env a) (End y)) z
         (way_serves dest c.code (Held c k env a) (Aimed c k env a (exit_of k.block.exit env)) End pieces.compare pieces.label (exit_of k.block.exit env) (run.meets (ap is_way q)) pieces.aim pieces.way_stub pieces.tail ys (run.aim (ap is_way q))
-        (λ n. let h : knows (exit_of k.block.exit env) ≡ false = sym (in_among (exit_of k.block.exit env) ys) ∙ n in λ at u cs s q. gets_map (Restored plan (exit_of k.block.exit env) (outs_of k.block.outs whole) whole.mem a) (End (exit_of k.block.exit env)) 1 1 _ _ u cs (omega arith) (omega arith) (λ w t. inr (h, t)) (run.way_stub (ap is_way is) h at u cs s q))
+        (λ n. let h : knows (exit_of k.block.exit env) ≡ false = sym (in_among (exit_of k.block.exit env) ys) ∙ n in λ at u cs s q. gets_map (Returned plan (exit_of k.block.exit env) (outs_of k.block.outs whole) whole.mem a) (End (exit_of k.block.exit env)) 1 1 _ _ u cs (omega arith) (omega arith) (λ w t. inr (h, subst (λ to. Returned plan to (outs_of k.block.outs whole) whole.mem a w) (sym (literal (exit_of k.block.exit env) (ap (λ w. is_out w (exit_of k.block.exit env)) is))) t)) (run.way_stub (ap is_way is) h at u cs s q))
         (λ n. let h : knows (exit_of k.block.exit env) ≡ true = sym (in_among (exit_of k.block.exit env) ys) ∙ n in λ at u cs s q. gets_map (Tailed c k env a (exit_of k.block.exit env)) (End (exit_of k.block.exit env)) 1 1 _ _ u cs (omega arith) (omega arith) (λ w t. inl (h, t)) (run.tail (exit_of k.block.exit env) h at u cs s q)) n few.0 (few.1 (exit_of k.block.exit env)))
     by_exit (Island len) q n few = absurd (no_island (lift_of exe x).exit len (subst (SameKind (lift_of exe x).exit) q serves.kind))
 
@@ -148,29 +148,29 @@ module _ (dest : Dest → ℕ) (exe : Exe) (edges : List Edge) (c : Coded) (x : 
               (λ (off : c.live taken v ≡ false). let q = t.others v l off in omega (arith, q, old))
               (cases_Bool (c.live taken v))
 
-      leaves : ((y : ℕ) → c.beyond x y ≡ y) → (u : State) → knows taken ≡ false → Restored plan taken (outs_of k.block.outs whole) whole.mem a u → Leaves plan x p a u
-      leaves literal u h z = record {
+      leaves : (u : State) → knows taken ≡ false → Returned plan (c.beyond x taken) (outs_of k.block.outs whole) whole.mem a u → Leaves plan x p a u
+      leaves u h z = record {
         unknown = h;
         restored = record {
-          own = z.own;
-          size = z.size;
-          mem = z.mem ∙ ap (λ m. c.code ∷ private_region z.own ∷ m) (whole_memory c.home (c.live x) (lift_of exe x) (exits_of exe edges c x) k serves p (λ v. a.cell (c.home v)) a.outer small bytes allowed homes (unknown_taken knows (lift_of exe x).exit (end_env (lift_of exe x) p a.outer) way h));
-          count = z.count;
-          regs = λ r l. z.regs r l ∙ out_all h r (omega arith);
-          flags = λ f. z.flags f ∙ out_all h (number f) (number_small f);
-          df = z.df ∙ out_all h 13 (omega arith);
-          eip = z.eip ∙ sym (literal taken);
-          shows = z.shows;
-          brk_start = z.brk_start;
-          brk = z.brk;
+          own = z.restored.own;
+          size = z.restored.size;
+          mem = z.restored.mem ∙ ap (λ m. c.code ∷ private_region z.restored.own ∷ m) (whole_memory c.home (c.live x) (lift_of exe x) (exits_of exe edges c x) k serves p (λ v. a.cell (c.home v)) a.outer small bytes allowed homes (unknown_taken knows (lift_of exe x).exit (end_env (lift_of exe x) p a.outer) way h));
+          count = z.restored.count;
+          regs = λ r l. z.restored.regs r l ∙ out_all h r (omega arith);
+          flags = λ f. z.restored.flags f ∙ out_all h (number f) (number_small f);
+          df = z.restored.df ∙ out_all h 13 (omega arith);
+          eip = z.restored.eip;
+          shows = z.restored.shows;
+          brk_start = z.restored.brk_start;
+          brk = z.restored.brk;
         };
-        ready = λ far. absurd (far (literal taken));
+        ready = λ far. z.ready;
       }
 
       -- the whole fragment
-      pub pieces_pass : ((y : ℕ) → c.beyond x y ≡ y) → (n : ℕ) → ExitWithin knows ys pieces k.block.exit n → PassesIn dest c.code (pieces.body ++ exit_items knows ys pieces k.block.exit) (count_of pieces.body + n) (λ at u. Sees c.code u a × (u.eip ≡ at)) (λ u. Arrives plan x p a u ⊎ Leaves plan x p a u)
-      pieces_pass literal n few at u cs s h =
+      pub pieces_pass : (n : ℕ) → ExitWithin knows ys pieces k.block.exit n → PassesIn dest c.code (pieces.body ++ exit_items knows ys pieces k.block.exit) (count_of pieces.body + n) (λ at u. Sees c.code u a × (u.eip ≡ at)) (λ u. Arrives plan x p a u ⊎ Leaves plan x p a u)
+      pieces_pass n few at u cs s h =
           let to : exit_of k.block.exit env ≡ taken = body_exit c.home (c.live x) (lift_of exe x) (exits_of exe edges c x) k serves p (λ v. a.cell (c.home v)) a.outer small bytes allowed homes in
           let g = body_then dest c.code pieces.body (exit_items knows ys pieces k.block.exit) n (λ at u. Sees c.code u a × (u.eip ≡ at)) (Held c k env a) (End (exit_of k.block.exit env)) (λ at u cs s h. run.body at u cs s h.0 h.1) (by_exit k.block.exit refl n few) at u cs s h in
           gets_map (End (exit_of k.block.exit env)) (λ u. Arrives plan x p a u ⊎ Leaves plan x p a u) 1 1 _ _ u cs (omega arith) (omega arith)
-          (λ w d. ⊎_elim (λ (t : (knows taken ≡ true) × Tailed c k env a taken w). inl (arrives w t.0 t.1)) (λ (t : (knows taken ≡ false) × Restored plan taken (outs_of k.block.outs whole) whole.mem a w). inr (leaves literal w t.0 t.1)) (subst (λ y. End y w) to d)) g
+          (λ w d. ⊎_elim (λ (t : (knows taken ≡ true) × Tailed c k env a taken w). inl (arrives w t.0 t.1)) (λ (t : (knows taken ≡ false) × Returned plan (c.beyond x taken) (outs_of k.block.outs whole) whole.mem a w). inr (leaves w t.0 t.1)) (subst (λ y. End y w) to d)) g

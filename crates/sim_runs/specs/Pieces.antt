@@ -10,7 +10,7 @@ use Rattle.ia_encode.specs.declared.item.Dest.{Dest}
 use Rattle.ia_encode.specs.declared.item.Dest.TheVariants as dests
 use Rattle.ia_encode.specs.declared.item.Item.{Item}
 use Rattle.ia_encode.specs.declared.item.Item.TheVariants as item
-use Rattle.ia_encode.specs.Items.{size_of_items, bytes_of_items, dest_at, AreDistinct, AreValid}
+use Rattle.ia_encode.specs.Items.{size_of_items, bytes_of_items, with_labels, AreDistinct, AreValid}
 use Rattle.run_model.specs.Edges.{Edge}
 use Rattle.block_cut.specs.Blocks.{block_of}
 use Rattle.block_cut.specs.CountedEdges.{counting}
@@ -21,7 +21,7 @@ use Rattle.ssa_form.specs.Value.{Env, value, fold, outs_of, exit_of}
 use Rattle.ssa_form.specs.Same.{rows, start_env}
 use Rattle.code_laws.specs.Placed.{AllHigh}
 use Rattle.code_laws.specs.Seen.{Cells, Sees}
-use Rattle.sim_runs.specs.Relation.{Plan}
+use Rattle.sim_runs.specs.Relation.{Plan, Ready}
 use Rattle.sim_runs.specs.Laws.{Stays, Restored}
 use Rattle.emit_ops.specs.Sequences.{kept}
 use Rattle.sim_runs.specs.Coding.{Coding, NamedLater}
@@ -136,15 +136,22 @@ Compared dest c k pieces a env y at w =
     ⊎ ((nat_eq (exit_of k.block.exit env) y ≡ false)
     × Aimed c k env a (exit_of k.block.exit env) (at + length (canonical (pieces.compare y)) + 6) w)
 
--- what each piece does, wherever it stands; env is the body's end, whole that of the sunk lines behind it
-pub record PiecesRun (dest : Dest → ℕ) (plan : Plan) (c : Coded) (k : Coding) (pieces : Pieces)
+-- what a side exit restores, with the private segment ready for a capture
+pub record Returned (plan : Plan) (at : ℕ) (g : ℕ → ℕ) (outer : List Region) (a : Cells) (t : State) : Type 0 where
+  pub restored : Restored plan at g outer a t
+  pub ready : Ready restored.own t.cpu.df
+
+-- what each piece of the fragment of x does, wherever it stands; env is the body's end, whole that of the sunk lines
+-- behind it
+pub record PiecesRun (dest : Dest → ℕ) (plan : Plan) (c : Coded) (x : ℕ) (k : Coding) (pieces : Pieces)
     (knows : ℕ → Bool) (a : Cells) (env whole : Env) : Type 0 where
   pub body : (at : ℕ) (u : State) (cs : List ℕ) → StandsFrom dest c.code at pieces.body → Sees c.code u a → u.eip ≡ at
       → Gets (Held c k env a (at + size_of_items pieces.body)) 0 (count_of pieces.body) u cs
   pub tail : (y : ℕ) → knows y ≡ true
       → Passes dest c.code (pieces.tail y) (Held c k env a) (Tailed c k env a y)
   pub stub : (l y : ℕ) → is_out k.block.exit y ≡ true → knows y ≡ false
-      → Passes dest c.code (pieces.stub l y) (Held c k env a) (Restored plan y (outs_of k.block.outs whole) whole.mem a)
+      → Passes dest c.code (pieces.stub l y) (Held c k env a)
+      (Returned plan (plan.beyond x y) (outs_of k.block.outs whole) whole.mem a)
   pub ask : is_cond k.block.exit ≡ true → (at : ℕ) (u : State) (cs : List ℕ)
       → StandsFrom dest c.code at (pieces.ask ++ (item.Jump (Some 5) (dests.Label pieces.other) ∷ [])) → Held c k env a at u
       → Gets (Held c k env a (tested_to dest k pieces env at)) 0 (count_of pieces.ask + 1) u cs
@@ -157,7 +164,7 @@ pub record PiecesRun (dest : Dest → ℕ) (plan : Plan) (c : Coded) (k : Coding
       → Gets (Compared dest c k pieces a env y at) 0 2 u cs
   pub way_stub : is_way k.block.exit ≡ true → knows (exit_of k.block.exit env) ≡ false
       → Passes dest c.code pieces.way_stub (Aimed c k env a (exit_of k.block.exit env))
-      (Restored plan (exit_of k.block.exit env) (outs_of k.block.outs whole) whole.mem a)
+      (Returned plan (exit_of k.block.exit env) (outs_of k.block.outs whole) whole.mem a)
 
 -- ---- fragments
 
@@ -166,25 +173,27 @@ abbrev pub fragment_items : Exe → List Edge → Coding → Pieces → ℕ → 
 fragment_items exe edges k pieces x =
     pieces.body ++ exit_items (knows_of exe edges x) (known_of exe (counting exe edges) x) pieces k.block.exit
 
--- their bytes stand at an address of the code
-pub record IsLinked (code : Region) (address : ℕ → ℕ) (at : ℕ) (is : List Item) : Type 0 where
+-- their bytes stand at an address of the code, with destinations where goes says
+pub record IsLinked (code : Region) (goes : Dest → ℕ) (at : ℕ) (is : List Item) : Type 0 where
   pub front : List ℕ
   pub behind : List ℕ
-  pub bytes : code.bytes ≡ front ++ (bytes_of_items (dest_at address at is) at is ++ behind)
+  pub bytes : code.bytes ≡ front ++ (bytes_of_items (with_labels goes at is) at is ++ behind)
   pub place : at ≡ code.start + length front
   pub valid : AreValid is
   pub distinct : AreDistinct is
 
--- each fragment is linked at its address, its pieces do what they have to, and those for an exit that is not known lead there itself
+-- each fragment is linked at its address, its pieces do what they have to, and an exit that is not known and no direct
+-- one leads to that address itself
 pub record FragmentsMade (exe : Exe) (edges : List Edge) (c : Coded) (coding : ℕ → Coding) : Type 0 where
-  pub literal : (x y : ℕ) → c.beyond x y ≡ y
+  pub goes : Dest → ℕ
+  pub literal : (x y : ℕ) → is_out (coding x).block.exit y ≡ false → c.beyond x y ≡ y
   pub pieces : ℕ → Pieces
   pub linked : (x : ℕ) → is_start_of exe edges x ≡ true → is_island_end (block_of exe x).end ≡ false
-      → IsLinked c.code c.address (c.address x) (fragment_items exe edges (coding x) (pieces x) x)
+      → IsLinked c.code goes (c.address x) (fragment_items exe edges (coding x) (pieces x) x)
   pub run : (x : ℕ) (p : ℕ → ℕ) (t : State) (a : Cells)
       → is_start_of exe edges x ≡ true → is_island_end (block_of exe x).end ≡ false
       → ServesAt exe edges c x (coding x) → Runs exe c x p t a
-      → PiecesRun (dest_at c.address (c.address x) (fragment_items exe edges (coding x) (pieces x) x)) (plan_of exe edges c) c
+      → PiecesRun (with_labels goes (c.address x) (fragment_items exe edges (coding x) (pieces x) x)) (plan_of exe edges c) c x
       (coding x) (pieces x) (knows_of exe edges x) a
       (body_end (coding x) (λ v. a.cell (c.home v)) a.outer) (whole_end (coding x) (λ v. a.cell (c.home v)) a.outer)
 
