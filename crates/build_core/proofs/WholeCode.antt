@@ -10,7 +10,7 @@ use Rattle.block_make.specs.FragmentCode.{coded}
 use Rattle.code_layout.specs.declared.place.TheConstants.{MAX_CODE}
 use Rattle.code_layout.specs.declared.built.Built.{Built}
 use Rattle.code_layout.specs.Keys.{live_of, key_of, keys_of}
-use Rattle.code_layout.specs.Linked.{code_of}
+use Rattle.code_layout.specs.Linked.{itself, code_of}
 use Rattle.code_layout.specs.Image.{image_with, built_of, IsTooLong}
 use Rattle.code_layout.specs.Layout.{Added, code_length, added_of, layout_of, built_by, LayoutLinks}
 
@@ -28,7 +28,7 @@ count_is exe edges =
 module _ (links : LayoutLinks) (exe : Exe) (edges : List Edge) where
   pub length_is : length (code_of exe edges) ≡ code_length (layout_of exe (keys_of exe edges))
   unfolding code_of
-  length_is = links.length_is exe (keys_of exe edges)
+  length_is = links.length_is itself exe (keys_of exe edges)
 
   pub is_short : code_length (layout_of exe (keys_of exe edges)) ≤ MAX_CODE → IsTooLong exe edges → ⊥
   is_short s l = absurd (omega (arith, s, l, length_is))
@@ -48,6 +48,6 @@ module _ (links : LayoutLinks) (exe : Exe) (edges : List Edge) where
   built_is f =
       let ks = keys_of exe edges in
       let made : List ℕ → ℕ → ℕ → Built = λ bytes blocks code. record { bytes = image_with exe bytes; blocks = blocks; code = code } in
-      ap (λ b. made b (length (added_of exe ks)) (code_length (layout_of exe ks))) (links.code exe ks (fits f))
+      ap (λ b. made b (length (added_of exe ks)) (code_length (layout_of exe ks))) (links.code itself exe ks (fits f))
       ∙ ap (λ n. made (code_of exe edges) n (code_length (layout_of exe ks))) (count_is exe edges)
       ∙ ap (made (code_of exe edges) (length (graph_of exe edges))) (sym length_is)

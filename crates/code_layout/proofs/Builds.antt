@@ -10,7 +10,7 @@ use Rattle.block_make.specs.FragmentCode.{coded}
 use Rattle.code_layout.specs.declared.place.TheConstants.{MAX_CODE}
 use Rattle.code_layout.specs.declared.built.Built.{Built}
 use Rattle.code_layout.specs.Keys.{live_of, key_of, keys_of}
-use Rattle.code_layout.specs.Linked.{code_of}
+use Rattle.code_layout.specs.Linked.{itself, code_of}
 use Rattle.code_layout.specs.Image.{image_with, built_of, IsTooLong}
 use Rattle.code_layout.specs.Layout.{code_length, added_of, layout_of, built_by, LayoutLinks}
 use Rattle.code_layout.specs.Growth.{LayoutsBuild}
@@ -27,7 +27,7 @@ module _ (links : LayoutLinks) where
   module _ (exe : Exe) (edges : List Edge) where
     length_is : length (code_of exe edges) ≡ code_length (layout_of exe (keys_of exe edges))
     unfolding code_of
-    length_is = links.length_is exe (keys_of exe edges)
+    length_is = links.length_is itself exe (keys_of exe edges)
 
     is_long : (MAX_CODE < code_length (layout_of exe (keys_of exe edges))) ↔ IsTooLong exe edges
     is_long = (λ l. omega (arith, l, length_is), λ l. omega (arith, l, length_is))
@@ -44,7 +44,7 @@ module _ (links : LayoutLinks) where
     built_is f =
         let ks = keys_of exe edges in
         let made : List ℕ → ℕ → ℕ → Built = λ bytes blocks code. record { bytes = image_with exe bytes; blocks = blocks; code = code } in
-        ap (λ b. made b (length (added_of exe ks)) (code_length (layout_of exe ks))) (links.code exe ks (fits f))
+        ap (λ b. made b (length (added_of exe ks)) (code_length (layout_of exe ks))) (links.code itself exe ks (fits f))
         ∙ ap (λ n. made (code_of exe edges) n (code_length (layout_of exe ks))) (count_is exe edges)
         ∙ ap (made (code_of exe edges) (length (graph_of exe edges))) (sym length_is)
 

@@ -11,7 +11,7 @@ use Rattle.code_layout.specs.declared.place.TheConstants.{CODE_START}
 use Rattle.code_layout.specs.declared.rows.Row.{Row}
 use Rattle.code_layout.specs.Rows.{row_starts, row_address}
 
-rise : (xs : List ℕ) (i j : ℕ) → IsStrictlyIncreasing xs → i ≤ j → j < length xs → get_or xs i 0 ≤ get_or xs j 0
+pub rise : (xs : List ℕ) (i j : ℕ) → IsStrictlyIncreasing xs → i ≤ j → j < length xs → get_or xs i 0 ≤ get_or xs j 0
 rise xs i j up le in' = elim (cases_lt i j) as (λ _. get_or xs i 0 ≤ get_or xs j 0) [
   | inl lt ↦ omega (arith, below_from_sorted xs i j 0 (sorted_from_strictly_increasing xs up) lt in')
   | inr ge ↦ let is : i ≡ j = omega arith in let e = ap (λ m. get_or xs m 0) is in omega arith

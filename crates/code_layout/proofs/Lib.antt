@@ -1,4 +1,5 @@
 pub mod Found
+mod Pairs
 pub mod Fills
 pub mod Kept
 pub mod Whole

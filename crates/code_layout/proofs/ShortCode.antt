@@ -11,7 +11,7 @@ use Rattle.flow_graph.specs.GraphOf.{graph_of}
 use Rattle.block_make.specs.FragmentCode.{coded}
 use Rattle.block_make.specs.CodesShort.{most_bytes, CodesShort}
 use Rattle.code_layout.specs.Keys.{live_of, key_of, keys_of}
-use Rattle.code_layout.specs.Linked.{entry_items, has_key, code_of}
+use Rattle.code_layout.specs.Linked.{entry_items, has_key, itself, code_of}
 use Rattle.code_layout.specs.Layout.{added_length, added_of}
 use Rattle.code_layout.specs.CodeShort.{IsWithin, ENTRY_BYTES, CodeShort}
 use Rattle.code_layout.proofs.Links.{length_open, length_links}
@@ -42,7 +42,7 @@ pub code_short : CodesShort → CodeShort
 unfolding code_of keys_of
 code_short codes exe edges instructions exits h =
     let entry = entry_items exe.entry (has_key (keys_of exe edges) exe.entry) in
-    let a = length_links exe (keys_of exe edges) in
+    let a = length_links exe itself (keys_of exe edges) in
     let b = added_short codes exe (live_of exe edges) instructions exits (graph_of exe edges) h in
     let c = length_open (dest_at (λ y. 0) 0 entry) 0 entry in
     let d = entry_short exe.entry (has_key (keys_of exe edges) exe.entry) in

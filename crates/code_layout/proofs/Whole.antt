@@ -9,10 +9,10 @@ use Rattle.block_make.specs.declared.fragment.Fix.{Fix}
 use Rattle.block_make.specs.FragmentCode.{code_of_items}
 use Rattle.code_layout.specs.declared.place.TheConstants.{CODE_START}
 use Rattle.code_layout.specs.declared.rows.Row.{Row}
-use Rattle.code_layout.specs.Linked.{entry_items}
+use Rattle.code_layout.specs.Linked.{entry_items, goes_out}
 use Rattle.code_layout.specs.Layout.{Added, LayoutView, entry_code, added_length, added_at, added_from, filled, layout_code, is_added, IsAddedFix, AreAdded, IsWhole}
 use Rattle.code_layout.specs.Rows.{forth, fixes_in, row_for, rows_in, row_starts, row_address, IsFillable, IsKept}
-use Rattle.code_layout.proofs.Fills.{IsInside, AreInside, filled_all, filled_same}
+use Rattle.code_layout.proofs.Fills.{IsInside, AreInside, filled_all, goes_same, filled_same}
 use Rattle.code_layout.proofs.Kept.{kept_length}
 
 starts_are : (at from : ℕ) (added : List Added) → row_starts (rows_in at from added) ≡ map (λ (a : Added). a.start) added
@@ -90,15 +90,17 @@ module _ (v : LayoutView) (code : List ℕ) (fixes : List Fix) (rows : List Row)
         (entry_fillable v.entry v.known rows (length code) (omega arith) (λ s. has_row v.entry (w.entry ∙ s)))
         (fixes_fillable rows (length code) (length e.bytes) v.added v.added (omega arith) has_row w.targets))
 
-    pub kept_filled : filled (row_address rows) CODE_START fixes code ≡ layout_code v
+    pub kept_filled : (out : ℕ → ℕ) → filled (goes_out (row_address rows) out) CODE_START fixes code ≡ layout_code out v
     unfolding layout_code
-    kept_filled =
+    kept_filled out =
         let e = entry_code v in
-        ap (λ r. filled (row_address r) CODE_START fixes code) k.rows_are
-        ∙ filled_same (row_address (rows_in (length e.bytes) (length e.fixes) v.added)) (added_at (added_from v) v.added) (address_is (length e.bytes) (length e.fixes) v.added) CODE_START fixes code
-        ∙ ap (λ f. filled (added_at (added_from v) v.added) CODE_START f code) k.fixes_are
-        ∙ ap (filled (added_at (added_from v) v.added) CODE_START (e.fixes ++ fixes_in (length e.bytes) v.added)) k.code_is
-        ∙ filled_all (added_at (added_from v) v.added) CODE_START e.fixes e.bytes v.added (entry_inside v.entry v.known) (fixes_inside v.added v.added w.targets)
+        let goes = goes_out (added_at (added_from v) v.added) out in
+        let by_rows = row_address (rows_in (length e.bytes) (length e.fixes) v.added) in
+        ap (λ r. filled (goes_out (row_address r) out) CODE_START fixes code) k.rows_are
+        ∙ filled_same (goes_out by_rows out) goes (goes_same by_rows (added_at (added_from v) v.added) out (address_is (length e.bytes) (length e.fixes) v.added)) CODE_START fixes code
+        ∙ ap (λ f. filled goes CODE_START f code) k.fixes_are
+        ∙ ap (filled goes CODE_START (e.fixes ++ fixes_in (length e.bytes) v.added)) k.code_is
+        ∙ filled_all goes CODE_START e.fixes e.bytes v.added (entry_inside v.entry v.known) (fixes_inside v.added v.added w.targets)
 
 -- the code is not empty
 pub entry_some : (entry : ℕ) (known : Bool) → 0 < length (code_of_items (entry_items entry known)).bytes

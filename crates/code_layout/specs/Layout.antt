@@ -5,6 +5,8 @@ use Rattle.br_word.specs.Memory.{bytes_of}
 use Rattle.elf_read.specs.declared.exe.Exe.{Exe}
 use Rattle.elf_read.specs.Elf.{IsGuest}
 use Rattle.run_model.specs.Edges.{Edge}
+use Rattle.ia_encode.specs.declared.item.Dest.{Dest}
+use Rattle.ia_encode.specs.declared.item.Dest.TheVariants as dests
 use Rattle.ia_encode.specs.Items.{distance}
 use Rattle.block_cut.specs.Transfers.{is_among}
 use Rattle.trace_file.specs.Edges.{ascends}
@@ -17,7 +19,7 @@ use Rattle.block_make.specs.FragmentCode.{OpenCode, code_of_items, coded}
 use Rattle.code_layout.specs.declared.place.TheConstants.{CODE_START, MAX_CODE}
 use Rattle.code_layout.specs.declared.built.Built.{Built}
 use Rattle.code_layout.specs.Keys.{keys_of}
-use Rattle.code_layout.specs.Linked.{entry_items, code_of_keys, has_key}
+use Rattle.code_layout.specs.Linked.{entry_items, goes_out, code_of_keys, has_key, itself}
 use Rattle.code_layout.specs.Image.{image_with}
 
 -- a fragment that was added: the start of its block, and its code
@@ -61,31 +63,31 @@ added_at at (a ∷ more) y = if a.start == y then at else added_at (at + length 
 abbrev pub with_word : ℕ → ℕ → List ℕ → List ℕ
 with_word at w bytes = take at bytes ++ (bytes_of 4 w ++ drop (at + 4) bytes)
 
--- where a fix goes to: a block, or the original
-abbrev pub target_of : (ℕ → ℕ) → Fix → ℕ
-target_of address f = if f.known then address f.target else f.target
+-- where a fix goes to: a block, or an address of the original
+abbrev pub dest_of_fix : Fix → Dest
+dest_of_fix f = if f.known then dests.Block f.target else dests.Original f.target
 
 -- the distances of fixes are filled in, in code that stands at an address
-abbrev pub filled : (ℕ → ℕ) → ℕ → List Fix → List ℕ → List ℕ
-filled address at [] bytes = bytes
-filled address at (f ∷ fs) bytes = filled address at fs (with_word f.at (distance (at + f.at + 4) (target_of address f)) bytes)
+abbrev pub filled : (Dest → ℕ) → ℕ → List Fix → List ℕ → List ℕ
+filled goes at [] bytes = bytes
+filled goes at (f ∷ fs) bytes = filled goes at fs (with_word f.at (distance (at + f.at + 4) (goes (dest_of_fix f))) bytes)
 
-abbrev pub filled_code : (ℕ → ℕ) → ℕ → OpenCode → List ℕ
-filled_code address at c = filled address at c.fixes c.bytes
+abbrev pub filled_code : (Dest → ℕ) → ℕ → OpenCode → List ℕ
+filled_code goes at c = filled goes at c.fixes c.bytes
 
-abbrev pub filled_from : (ℕ → ℕ) → ℕ → List Added → List ℕ
-filled_from address at [] = []
-filled_from address at (a ∷ more) = filled_code address at a.code ++ filled_from address (at + length a.code.bytes) more
+abbrev pub filled_from : (Dest → ℕ) → ℕ → List Added → List ℕ
+filled_from goes at [] = []
+filled_from goes at (a ∷ more) = filled_code goes at a.code ++ filled_from goes (at + length a.code.bytes) more
 
 -- where the first fragment stands
 abbrev pub added_from : LayoutView → ℕ
 added_from v = CODE_START + length (entry_code v).bytes
 
--- the code at the entry, and the fragments behind it
-unfoldable pub layout_code : LayoutView → List ℕ
-layout_code v =
-    let address = added_at (added_from v) v.added in
-    filled_code address CODE_START (entry_code v) ++ filled_from address (added_from v) v.added
+-- the code at the entry, and the fragments behind it, with addresses of the original where out says
+unfoldable pub layout_code : (ℕ → ℕ) → LayoutView → List ℕ
+layout_code out v =
+    let goes = goes_out (added_at (added_from v) v.added) out in
+    filled_code goes CODE_START (entry_code v) ++ filled_from goes (added_from v) v.added
 
 -- ---- what is asked of it
 
@@ -109,7 +111,7 @@ pub record IsWhole (v : LayoutView) : Type 0 where
 
 -- the file of its code
 abbrev pub built_by : Exe → LayoutView → Built
-built_by exe v = record { bytes = image_with exe (layout_code v); blocks = length v.added; code = code_length v }
+built_by exe v = record { bytes = image_with exe (layout_code itself v); blocks = length v.added; code = code_length v }
 
 -- ---- what it comes to
 
@@ -121,11 +123,13 @@ added_of exe keys = map (λ key. record { start = key.start; code = coded exe ke
 abbrev pub layout_of : Exe → List BlockKey → LayoutView
 layout_of exe keys = record { entry = exe.entry; known = has_key keys exe.entry; added = added_of exe keys; spent = false }
 
--- Where the fragments of keys were added, filling in the distances gives the code of the keys, and so much was counted.
+-- Where the fragments of keys were added, filling in the distances gives the code of the keys, wherever addresses of the original
+-- lie, and so much was counted.
 pub record LayoutLinks : Type 0 where
-  pub code : (exe : Exe) (keys : List BlockKey) → code_length (layout_of exe keys) ≤ MAX_CODE
-      → layout_code (layout_of exe keys) ≡ code_of_keys exe keys
-  pub length_is : (exe : Exe) (keys : List BlockKey) → length (code_of_keys exe keys) ≡ code_length (layout_of exe keys)
+  pub code : (out : ℕ → ℕ) (exe : Exe) (keys : List BlockKey) → code_length (layout_of exe keys) ≤ MAX_CODE
+      → layout_code out (layout_of exe keys) ≡ code_of_keys out exe keys
+  pub length_is : (out : ℕ → ℕ) (exe : Exe) (keys : List BlockKey)
+      → length (code_of_keys out exe keys) ≡ code_length (layout_of exe keys)
 
 -- The keys of a graph ascend by their starts, and their fragments make a whole layout: each known fix goes to the start of a key. Of
 -- edges in order, not too many, a fragment can be made of each key.

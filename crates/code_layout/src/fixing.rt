@@ -4,10 +4,13 @@ ghost use Rattle.std.specs.List.Sorted.{IsStrictlyIncreasing};
 ghost use Rattle.block_make.specs.declared.fragment.Fix.{Fix};
 ghost use Rattle.block_cut.specs.Transfers.{is_among};
 ghost use Rattle.ia_encode.specs.Items.{distance};
-ghost use Rattle.code_layout.specs.Layout.{with_word, target_of, filled};
+ghost use Rattle.code_layout.specs.Linked.{goes_out};
+ghost use Rattle.code_layout.specs.Layout.{with_word, dest_of_fix, filled};
+ghost use Rattle.code_layout.specs.Places.{place_in};
 ghost use Rattle.code_layout.specs.Rows.{row_starts, row_address, forth, IsFillable};
 
 use crate::place::CODE_START;
+use crate::places::Places;
 use crate::rows::{Row, address_of};
 use block_make::Fix;
 use std::alloc::AllocError;
@@ -36,32 +39,32 @@ fn put_word(code: &mut [u8], at: usize, word: u32)
 }
 
 /// The distance of a fix of code that stands at [`CODE_START`].
-fn distance_of(rows: &[Row], fix: &Fix) -> u32
+fn distance_of(rows: &[Row], out: &Places, fix: &Fix) -> u32
     requires order { IsStrictlyIncreasing (row_starts rows.now) }
     requires low { All (λ (r : Row). CODE_START + r.at < 2 ^ 32) rows.now }
     requires inside { CODE_START + fix.now.at + 4 < 2 ^ 32 }
     requires there { fix.now.known ≡ true → is_among (row_starts rows.now) fix.now.target ≡ true }
-    ensures { result ≡ distance (CODE_START + fix.now.at + 4) (target_of (row_address rows.now) fix.now) }
+    ensures { result ≡ distance (CODE_START + fix.now.at + 4) (goes_out (row_address rows.now) (place_in out.now) (dest_of_fix fix.now)) }
 {
     let to = if fix.known {
         address_of(rows, fix.target)
     } else {
-        fix.target
+        out.place_of(fix.target)
     };
     to.wrapping_sub(CODE_START + fix.at + 4)
 }
 
 /// Fills in the distances of fixes, in code that stands at [`CODE_START`]. The work for a fix grows with the logarithm of the number
-/// of rows.
-pub fn fill(code: &mut [u8], fixes: &[Fix], rows: &[Row])
+/// of rows, or of places.
+pub fn fill(code: &mut [u8], fixes: &[Fix], rows: &[Row], out: &Places)
     requires order { IsStrictlyIncreasing (row_starts rows.now) }
     requires low { All (λ (r : Row). CODE_START + r.at < 2 ^ 32) rows.now }
     requires short { CODE_START + length code.old < 2 ^ 32 }
     requires fixes { All (IsFillable rows.now (length code.old)) fixes.now }
-    ensures { code.new ≡ filled (row_address rows.now) CODE_START fixes.now code.old }
+    ensures { code.new ≡ filled (goes_out (row_address rows.now) (place_in out.now)) CODE_START fixes.now code.old }
 {
     for fix in fixes {
-        let word = distance_of(rows, fix);
+        let word = distance_of(rows, out, fix);
         put_word(code, fix.at as usize, word);
     }
 }

@@ -5,6 +5,7 @@ use crate::fixing::fill;
 use crate::image::written;
 use crate::parts::{append, entry_piece};
 use crate::place::MAX_CODE;
+use crate::places::Places;
 use crate::rows::Row;
 use block_make::{Fix, Fragment, assemble};
 use elf_read::Exe;
@@ -40,12 +41,13 @@ impl<L> Model for Layout<L> {
 }
 
 impl<L> Layout<L> {
-    ghost use Rattle.std.specs.Prelude.{◌≡◌, ◌+◌, ◌<◌, ◌≤◌, ◌↔◌, [], false, true, All, IfOk, IfErr, OnOk, Err, length};
+    ghost use Rattle.std.specs.Prelude.{◌≡◌, ◌+◌, ◌<◌, ◌≤◌, ◌↔◌, [], false, true, All, IfOk, IfErr, OnOk, Err, length, vec_len};
     ghost use Rattle.elf_read.specs.Elf.{IsOriginal};
     ghost use Rattle.flow_graph.specs.declared.error.TheConstants.{MAX_BLOCKS};
     ghost use Rattle.block_make.specs.declared.fragment.Fix.{Fix};
     ghost use Rattle.code_layout.specs.declared.error.LayoutError.TheVariants.{TooLong, Memory};
-    ghost use Rattle.code_layout.specs.Layout.{Added, IsWhole, code_length, built_by, with_added};
+    ghost use Rattle.code_layout.specs.Layout.{Added, IsWhole, code_length, layout_code, built_by, with_added};
+    ghost use Rattle.code_layout.specs.Places.{place_in};
 
     /// The layout of the code at an entry, an address of the original, and no fragment yet. Where `known` is true, a block starts at
     /// the entry, and its fragment is to be added.
@@ -98,6 +100,22 @@ impl<L> Layout<L> {
         Ok(())
     }
 
+    /// The distances are filled in, and this is the code, at [`CODE_START`](crate::CODE_START). An address of the original lies where
+    /// `out` says. The layout is not spent and whole: each known target was added, and the entry exactly where the layout was made with
+    /// it known.
+    ///
+    /// Its work grows with the number of fixes times the logarithm of the number of fragments, or of places. It takes no memory.
+    pub fn code_with(self, out: &Places) -> Vec<u8>
+        requires whole { IsWhole self }
+        requires fresh { self.spent ≡ false }
+        ensures code { result.items ≡ layout_code (place_in out.now) self }
+        ensures len { vec_len result ≡ code_length self }
+    {
+        let mut code = self.code;
+        fill(&mut code, self.fixes.as_slice(), self.rows.as_slice(), out);
+        code
+    }
+
     /// The distances are filled in, and the file is written for an original with the entry of the layout. The layout is not spent
     /// and whole: each known target was added, and the entry exactly where the layout was made with it known. It has at most as many
     /// fragments as a graph has blocks.
@@ -113,8 +131,7 @@ impl<L> Layout<L> {
         ensures { IfOk result (λ e. e ≡ built_by exe.now self) }
     {
         let blocks = self.rows.len() as u32;
-        let mut code = self.code;
-        fill(&mut code, self.fixes.as_slice(), self.rows.as_slice());
+        let code = self.code_with(&Places::none(alloc));
         Ok(Emitted::of(written(alloc, exe, code, blocks)?))
     }
 }

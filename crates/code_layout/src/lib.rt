@@ -14,6 +14,7 @@ mod layout;
 mod live;
 mod parts;
 mod place;
+mod places;
 mod rows;
 mod short;
 
@@ -27,4 +28,8 @@ pub use laws::{empty_image, keys_are_keys, layout_links};
 pub use layout::Layout;
 pub use live::rows_after;
 pub use place::{CODE_START, MAX_CODE, PRIVATE_SIZE, PRIVATE_START};
+pub use places::Places;
 pub use short::code_short;
+
+#[cfg(test)]
+mod tests;

@@ -9,7 +9,7 @@ use Rattle.ia_encode.specs.declared.item.Dest.{Dest}
 use Rattle.ia_encode.specs.declared.item.Dest.TheVariants as dests
 use Rattle.ia_encode.specs.declared.item.Item.{Item}
 use Rattle.ia_encode.specs.declared.item.Item.TheVariants as item
-use Rattle.ia_encode.specs.Items.{jump_inst, size_of_item, size_of_items, bytes_of_items, distance, size_of_jump, dest_at, IsCondition, AreValid}
+use Rattle.ia_encode.specs.Items.{jump_inst, size_of_item, size_of_items, bytes_of_items, distance, size_of_jump, with_labels, IsCondition, AreValid}
 use Rattle.run_model.specs.Edges.{Edge}
 use Rattle.block_cut.specs.CountedEdges.{counting}
 use Rattle.flow_graph.specs.GraphOf.{starts_of}
@@ -28,7 +28,7 @@ use Rattle.block_make.specs.FragmentItems.{lines_items, moves_items, tail_items,
 use Rattle.code_layout.specs.declared.place.TheConstants.{CODE_START}
 use Rattle.code_layout.specs.Keys.{keys_of}
 use Rattle.code_layout.specs.Linked.{entry_items, bytes_at, bytes_from, first_at, fragments_of, has_key, code_of}
-use Rattle.image_laws.specs.Coded.{start_items, entry_of, address_of}
+use Rattle.image_laws.specs.Coded.{start_items, entry_of, goes_of}
 use Rattle.image_laws.specs.Serves.{HaveBytes}
 use Rattle.image_laws.proofs.Places.{fragment_at}
 use Rattle.image_laws.proofs.Standing.{whole, same_fragments}
@@ -129,22 +129,22 @@ items_bytes dest (item.Label l ∷ is) at h k = items_bytes dest is (at + 0) h k
 -- ---- the code
 
 module _ (exe : Exe) (edges : List Edge) (bytes : HaveBytes exe) (valid : (x : ℕ) → AreValid (start_items exe edges x)) where
-  abbrev address : ℕ → ℕ
-  address = address_of exe edges
+  abbrev goes : Dest → ℕ
+  goes = goes_of exe edges
 
-  parts_bytes : (xs : List ℕ) (at : ℕ) → Bytes (bytes_from address at (map (fragment_at (start_items exe edges)) xs))
+  parts_bytes : (xs : List ℕ) (at : ℕ) → Bytes (bytes_from goes at (map (fragment_at (start_items exe edges)) xs))
   parts_bytes [] at = tt
   parts_bytes (x ∷ xs) at =
       let is = start_items exe edges x in
-      join (bytes_at address at is) (bytes_from address (at + size_of_items is) (map (fragment_at (start_items exe edges)) xs)) (items_bytes (dest_at address at is) is at (valid x) (own_items exe _ bytes)) (parts_bytes xs (at + size_of_items is))
+      join (bytes_at goes at is) (bytes_from goes (at + size_of_items is) (map (fragment_at (start_items exe edges)) xs)) (items_bytes (with_labels goes at is) is at (valid x) (own_items exe _ bytes)) (parts_bytes xs (at + size_of_items is))
 
   all_bytes : AreValid (entry_of exe edges) → Bytes (code_of exe edges)
   all_bytes entry =
       let is = entry_of exe edges in
       subst Bytes (sym (whole exe edges))
-      (join (bytes_at address CODE_START is) (bytes_from address (first_at is) (fragments_of exe (keys_of exe edges)))
-      (items_bytes (dest_at address CODE_START is) is CODE_START entry (own_entry exe.entry (has_key (keys_of exe edges) exe.entry)))
-      (subst (λ fs. Bytes (bytes_from address (first_at is) fs)) (sym (same_fragments exe edges)) (parts_bytes (starts_of exe (counting exe edges)) (first_at is))))
+      (join (bytes_at goes CODE_START is) (bytes_from goes (first_at is) (fragments_of exe (keys_of exe edges)))
+      (items_bytes (with_labels goes CODE_START is) is CODE_START entry (own_entry exe.entry (has_key (keys_of exe edges) exe.entry)))
+      (subst (λ fs. Bytes (bytes_from goes (first_at is) fs)) (sym (same_fragments exe edges)) (parts_bytes (starts_of exe (counting exe edges)) (first_at is))))
 
   each_below : (bs : List ℕ) → Bytes bs → (i : ℕ) → get_or bs i 0 < 256
   each_below [] h i = omega arith

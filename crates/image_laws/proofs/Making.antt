@@ -2,7 +2,7 @@
 use Rattle.std.proofs.Common.{◌≡◌, ℕ, ◌+◌, ◌^◌, ◌<◌, ◌≤◌, Bool, true, false, if◌then◌else◌, List, [], ◌∷◌, length, map, get_or, refl, sym, ap, subst, arith}
 use Rattle.elf_read.specs.declared.exe.Exe.{Exe}
 use Rattle.ia_encode.specs.declared.item.Item.{Item}
-use Rattle.ia_encode.specs.Items.{size_of_item, size_of_items, is_label, label_at, dest_at}
+use Rattle.ia_encode.specs.Items.{size_of_item, size_of_items, is_label, label_at, with_labels}
 use Rattle.run_model.specs.Edges.{Edge}
 use Rattle.block_cut.specs.Blocks.{block_of}
 use Rattle.block_cut.specs.CountedEdges.{counting}
@@ -73,7 +73,7 @@ fragments_made laws exe edges bytes room small made =
       linked = λ x start plain. let m = made x start plain in subst (IsLinked c.code (goes_of exe edges) (c.address x)) (parts x start plain) (laws.stands.fragment exe edges x start m.valid m.labels);
       run = λ x p t a start plain serves runs.
           let is = fragment_items exe edges (coding_at exe edges x) (pieces x) x in
-          let dest = dest_at c.address (c.address x) is in
+          let dest = with_labels (goes_of exe edges) (c.address x) is in
           let size = ap size_of_items (parts x start plain) in
           let inside = laws.stands.inside exe edges x start in
           let sets : LiveSets (knows_of exe edges x) c.live (key_at exe edges x).exits = λ y k v l. ap (λ o. has (set_or_none o) v) (live_there (live_of exe edges) (known_of exe (counting exe edges) x) y k) in

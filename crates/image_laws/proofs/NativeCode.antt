@@ -13,7 +13,7 @@ use Rattle.ia_inst.specs.Step.{There, found, found_in, found_from}
 use Rattle.ia_encode.specs.declared.item.Dest.{Dest}
 use Rattle.ia_encode.specs.declared.item.Item.{Item}
 use Rattle.ia_encode.specs.declared.item.Item.TheVariants.{Byte, Jump}
-use Rattle.ia_encode.specs.Items.{size_of_item, size_of_items, bytes_of_item, bytes_of_items, dest_at}
+use Rattle.ia_encode.specs.Items.{size_of_item, size_of_items, bytes_of_item, bytes_of_items, with_labels}
 use Rattle.run_model.specs.Edges.{Edge}
 use Rattle.block_cut.specs.declared.ends.End.{End}
 use Rattle.block_cut.specs.declared.ends.End.TheVariants.{Transfer, Island, BeforeIsland, Unreadable, Full}
@@ -34,7 +34,7 @@ use Rattle.block_make.specs.FragmentItems.{lines_items, exit_items, own_bytes, d
 use Rattle.code_layout.specs.declared.place.TheConstants.{CODE_START}
 use Rattle.code_layout.specs.Linked.{code_of}
 use Rattle.sim_runs.specs.Recovered.{is_island_end, first_inst, is_start_of}
-use Rattle.image_laws.specs.Coded.{key_at, start_items, address_of, coded_of}
+use Rattle.image_laws.specs.Coded.{key_at, start_items, address_of, goes_of, coded_of}
 use Rattle.image_laws.proofs.Places.{JumpLengths, bytes_long}
 use Rattle.image_laws.proofs.Standing.{same_bytes, entry_bytes, place, own, parts, begins, inside}
 use Rattle.image_laws.proofs.LiftedBlocks.{found_code}
@@ -162,7 +162,7 @@ module _ (laws : Decodes) (exe : Exe) (edges : List Edge) (x : ℕ) (start : is_
   at = address_of exe edges x
 
   abbrev dest : Dest → ℕ
-  dest = dest_at (address_of exe edges) at (start_items exe edges x)
+  dest = with_labels (goes_of exe edges) at (start_items exe edges x)
 
   abbrev way_in : List ℕ
   way_in = bytes_of_items dest at opening

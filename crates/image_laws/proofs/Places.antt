@@ -7,7 +7,7 @@ use Rattle.ia_inst.specs.Canonical.{canonical}
 use Rattle.ia_encode.specs.declared.item.Dest.{Dest}
 use Rattle.ia_encode.specs.declared.item.Item.{Item}
 use Rattle.ia_encode.specs.declared.item.Item.TheVariants.{Inst as Put, Byte, Jump, Label}
-use Rattle.ia_encode.specs.Items.{size_of_items, size_of_jump, jump_inst, distance, bytes_of_items, dest_at}
+use Rattle.ia_encode.specs.Items.{size_of_items, size_of_jump, jump_inst, distance, bytes_of_items, with_labels}
 use Rattle.block_cut.specs.Transfers.{is_among}
 use Rattle.code_layout.specs.Linked.{Fragment, address_in, bytes_at, bytes_from}
 
@@ -17,10 +17,10 @@ pub record JumpLengths : Type 0 where
   pub jmp : (d : ℕ) → length (canonical (Jmp d)) ≡ 5
 
 -- the bytes of the fragment of a start among those of others
-pub record IsAmong (address : ℕ → ℕ) (all : List ℕ) (from at : ℕ) (is : List Item) : Type 0 where
+pub record IsAmong (goes : Dest → ℕ) (all : List ℕ) (from at : ℕ) (is : List Item) : Type 0 where
   pub front : List ℕ
   pub behind : List ℕ
-  pub bytes : all ≡ front ++ (bytes_at address at is ++ behind)
+  pub bytes : all ≡ front ++ (bytes_at goes at is ++ behind)
   pub place : at ≡ from + length front
 
 abbrev pub fragment_at : (ℕ → List Item) → ℕ → Fragment
@@ -43,9 +43,9 @@ module _ (laws : JumpLengths) where
       omega (arith, a, q, l)
   bytes_long dest (Label l ∷ is) at = let q = bytes_long dest is (at + 0) in omega (arith, q)
 
-  module _ (address : ℕ → ℕ) (items : ℕ → List Item) where
+  module _ (goes : Dest → ℕ) (items : ℕ → List Item) where
     abbrev Placed_at : ℕ → List ℕ → ℕ → ℕ → Type 0
-    Placed_at at xs x to = IsAmong address (bytes_from address at (map (fragment_at items) xs)) at to (items x)
+    Placed_at at xs x to = IsAmong goes (bytes_from goes at (map (fragment_at items) xs)) at to (items x)
 
     pub among : (xs : List ℕ) (at x : ℕ) → is_among xs x ≡ true → Placed_at at xs x (address_in at (map (fragment_at items) xs) x)
     among [] at x h = absurd (let e : false ≡ true = h in cc)
@@ -53,18 +53,18 @@ module _ (laws : JumpLengths) where
         (λ (q : ((y == x) ≡ true) × (y ≡ x)).
         subst (Placed_at at (y ∷ ys) x) (sym (ap (λ b. if b then at else address_in (at + size_of_items (items y)) (map (fragment_at items) ys) x) q.0)) (record {
           front = [];
-          behind = bytes_from address (at + size_of_items (items y)) (map (fragment_at items) ys);
-          bytes = ap (λ z. bytes_at address at (items z) ++ bytes_from address (at + size_of_items (items y)) (map (fragment_at items) ys)) q.1;
+          behind = bytes_from goes (at + size_of_items (items y)) (map (fragment_at items) ys);
+          bytes = ap (λ z. bytes_at goes at (items z) ++ bytes_from goes (at + size_of_items (items y)) (map (fragment_at items) ys)) q.1;
           place = omega arith;
         }))
         (λ (q : ((y == x) ≡ false) × (y ≢ x)).
         let r = among ys (at + size_of_items (items y)) x (later y x (is_among ys x) q.1 h) in
-        let long = bytes_long (dest_at address at (items y)) (items y) at in
-        let both = length-append (bytes_at address at (items y)) r.front in
+        let long = bytes_long (with_labels goes at (items y)) (items y) at in
+        let both = length-append (bytes_at goes at (items y)) r.front in
         subst (Placed_at at (y ∷ ys) x) (sym (ap (λ b. if b then at else address_in (at + size_of_items (items y)) (map (fragment_at items) ys) x) q.0)) (record {
-          front = bytes_at address at (items y) ++ r.front;
+          front = bytes_at goes at (items y) ++ r.front;
           behind = r.behind;
-          bytes = ap (λ bs. bytes_at address at (items y) ++ bs) r.bytes ∙ sym (append_assoc (bytes_at address at (items y)) r.front (bytes_at address (address_in (at + size_of_items (items y)) (map (fragment_at items) ys) x) (items x) ++ r.behind));
+          bytes = ap (λ bs. bytes_at goes at (items y) ++ bs) r.bytes ∙ sym (append_assoc (bytes_at goes at (items y)) r.front (bytes_at goes (address_in (at + size_of_items (items y)) (map (fragment_at items) ys) x) (items x) ++ r.behind));
           place = omega (arith, r.place, long, both);
         }))
         (eqb_tells y x)

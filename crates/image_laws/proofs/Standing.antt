@@ -7,7 +7,7 @@ use Rattle.ia_encode.specs.declared.item.Dest.{Dest}
 use Rattle.ia_encode.specs.declared.item.Dest.TheVariants as dests
 use Rattle.ia_encode.specs.declared.item.Item.{Item}
 use Rattle.ia_encode.specs.declared.item.Item.TheVariants as item
-use Rattle.ia_encode.specs.Items.{size_of_items, dest_at, AreDistinct, AreValid}
+use Rattle.ia_encode.specs.Items.{size_of_items, with_labels, AreDistinct, AreValid}
 use Rattle.run_model.specs.Edges.{Edge}
 use Rattle.block_cut.specs.CountedEdges.{counting}
 use Rattle.block_cut.specs.Transfers.{is_among}
@@ -74,7 +74,7 @@ no_more bytes = let z : length bytes - length bytes ≡ 0 = omega arith in ap (�
 pub same_bytes : (exe : Exe) (edges : List Edge) → (coded_of exe edges).code.bytes ≡ code_of exe edges
 same_bytes exe edges = no_more (code_of exe edges)
 
-pub whole : (exe : Exe) (edges : List Edge) → code_of exe edges ≡ bytes_at (address_of exe edges) CODE_START (entry_of exe edges) ++ bytes_from (address_of exe edges) (first_at (entry_of exe edges)) (fragments_of exe (keys_of exe edges))
+pub whole : (exe : Exe) (edges : List Edge) → code_of exe edges ≡ bytes_at (goes_of exe edges) CODE_START (entry_of exe edges) ++ bytes_from (goes_of exe edges) (first_at (entry_of exe edges)) (fragments_of exe (keys_of exe edges))
 unfolding code_of linked
 whole exe edges = refl
 
@@ -88,32 +88,32 @@ entry_size entry false = omega arith
 
 pub entry_some : JumpLengths → (exe : Exe) (edges : List Edge) → 5 ≤ length (code_of exe edges)
 entry_some laws exe edges =
-    let first = bytes_at (address_of exe edges) CODE_START (entry_of exe edges) in
-    let rest = bytes_from (address_of exe edges) (first_at (entry_of exe edges)) (fragments_of exe (keys_of exe edges)) in
+    let first = bytes_at (goes_of exe edges) CODE_START (entry_of exe edges) in
+    let rest = bytes_from (goes_of exe edges) (first_at (entry_of exe edges)) (fragments_of exe (keys_of exe edges)) in
     let a = ap length (whole exe edges) ∙ length-append first rest in
-    let b = bytes_long laws (dest_at (address_of exe edges) CODE_START (entry_of exe edges)) (entry_of exe edges) CODE_START in
+    let b = bytes_long laws (with_labels (goes_of exe edges) CODE_START (entry_of exe edges)) (entry_of exe edges) CODE_START in
     let c = entry_size exe.entry (has_key (keys_of exe edges) exe.entry) in
     omega (arith, a, b, c)
 
 module _ (laws : JumpLengths) (exe : Exe) (edges : List Edge) (x : ℕ) (start : is_start_of exe edges x ≡ true) where
   abbrev pub entry_bytes : List ℕ
-  entry_bytes = bytes_at (address_of exe edges) CODE_START (entry_of exe edges)
+  entry_bytes = bytes_at (goes_of exe edges) CODE_START (entry_of exe edges)
 
-  pub place : IsAmong (address_of exe edges) (bytes_from (address_of exe edges) (first_at (entry_of exe edges)) (fragments_of exe (keys_of exe edges))) (first_at (entry_of exe edges)) (address_of exe edges x) (start_items exe edges x)
+  pub place : IsAmong (goes_of exe edges) (bytes_from (goes_of exe edges) (first_at (entry_of exe edges)) (fragments_of exe (keys_of exe edges))) (first_at (entry_of exe edges)) (address_of exe edges x) (start_items exe edges x)
   place =
       let held : is_among (starts exe edges) x ≡ true = sym (ap (λ xs. is_among xs x) (same_starts exe edges)) ∙ start in
-      subst (λ fs. IsAmong (address_of exe edges) (bytes_from (address_of exe edges) (first_at (entry_of exe edges)) fs) (first_at (entry_of exe edges)) (address_in (first_at (entry_of exe edges)) fs x) (start_items exe edges x)) (sym (same_fragments exe edges))
-      (among laws (address_of exe edges) (start_items exe edges) (starts exe edges) (first_at (entry_of exe edges)) x held)
+      subst (λ fs. IsAmong (goes_of exe edges) (bytes_from (goes_of exe edges) (first_at (entry_of exe edges)) fs) (first_at (entry_of exe edges)) (address_in (first_at (entry_of exe edges)) fs x) (start_items exe edges x)) (sym (same_fragments exe edges))
+      (among laws (goes_of exe edges) (start_items exe edges) (starts exe edges) (first_at (entry_of exe edges)) x held)
 
   abbrev pub own : List ℕ
-  own = bytes_at (address_of exe edges) (address_of exe edges x) (start_items exe edges x)
+  own = bytes_at (goes_of exe edges) (address_of exe edges x) (start_items exe edges x)
 
   pub parts : code_of exe edges ≡ (entry_bytes ++ place.front) ++ (own ++ place.behind)
   parts = whole exe edges ∙ ap (λ bs. entry_bytes ++ bs) place.bytes ∙ sym (append_assoc entry_bytes place.front (own ++ place.behind))
 
   pub begins : address_of exe edges x ≡ CODE_START + length (entry_bytes ++ place.front)
   begins =
-      let long = bytes_long laws (dest_at (address_of exe edges) CODE_START (entry_of exe edges)) (entry_of exe edges) CODE_START in
+      let long = bytes_long laws (with_labels (goes_of exe edges) CODE_START (entry_of exe edges)) (entry_of exe edges) CODE_START in
       let both = length-append entry_bytes place.front in
       omega (arith, place.place, long, both)
 
@@ -129,7 +129,7 @@ module _ (laws : JumpLengths) (exe : Exe) (edges : List Edge) (x : ℕ) (start :
 
   pub inside : address_of exe edges x + size_of_items (start_items exe edges x) ≤ CODE_START + length (code_of exe edges)
   inside =
-      let long = bytes_long laws (dest_at (address_of exe edges) (address_of exe edges x) (start_items exe edges x)) (start_items exe edges x) (address_of exe edges x) in
+      let long = bytes_long laws (with_labels (goes_of exe edges) (address_of exe edges x) (start_items exe edges x)) (start_items exe edges x) (address_of exe edges x) in
       let all = ap length parts ∙ length-append (entry_bytes ++ place.front) (own ++ place.behind) in
       let rest = length-append own place.behind in
       omega (arith, begins, long, all, rest)
@@ -168,7 +168,7 @@ module _ (valid : CodeValid) where
   pub entry_stands : (exe : Exe) (edges : List Edge) → IsLinked (coded_of exe edges).code (goes_of exe edges) CODE_START (entry_of exe edges)
   entry_stands exe edges = record {
     front = [];
-    behind = bytes_from (address_of exe edges) (first_at (entry_of exe edges)) (fragments_of exe (keys_of exe edges));
+    behind = bytes_from (goes_of exe edges) (first_at (entry_of exe edges)) (fragments_of exe (keys_of exe edges));
     bytes = same_bytes exe edges ∙ whole exe edges;
     place = omega arith;
     valid = entry_valid exe.entry (has_key (keys_of exe edges) exe.entry);

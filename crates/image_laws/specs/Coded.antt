@@ -4,7 +4,7 @@ use Rattle.elf_read.specs.declared.exe.Exe.{Exe}
 use Rattle.elf_read.specs.Regions.{region_of}
 use Rattle.ia_encode.specs.declared.item.Dest.{Dest}
 use Rattle.ia_encode.specs.declared.item.Item.{Item}
-use Rattle.ia_encode.specs.Items.{size_of_items, goes_to}
+use Rattle.ia_encode.specs.Items.{size_of_items}
 use Rattle.run_model.specs.Edges.{Edge}
 use Rattle.block_cut.specs.CountedEdges.{counting}
 use Rattle.flow_graph.specs.Graph.{known_of}
@@ -15,7 +15,7 @@ use Rattle.block_make.specs.Choices.{choice_of}
 use Rattle.block_make.specs.Keys.{has}
 use Rattle.block_make.specs.FragmentItems.{items_of}
 use Rattle.code_layout.specs.Keys.{live_of, key_of, keys_of}
-use Rattle.code_layout.specs.Linked.{entry_items, first_at, address_in, fragments_of, has_key, code_of}
+use Rattle.code_layout.specs.Linked.{entry_items, first_at, address_in, goes_out, fragments_of, has_key, itself, code_of}
 use Rattle.code_layout.specs.Image.{code_segment}
 use Rattle.sim_runs.specs.Coding.{Coding}
 use Rattle.sim_runs.specs.Recovered.{Coded}
@@ -38,7 +38,7 @@ address_of exe edges = address_in (first_at (entry_of exe edges)) (fragments_of 
 
 -- where destinations lie: fragments at their addresses, an address of the original at itself
 abbrev pub goes_of : Exe → List Edge → Dest → ℕ
-goes_of exe edges = goes_to (address_of exe edges)
+goes_of exe edges = goes_out (address_of exe edges) itself
 
 -- the recovered code; the own bytes of a native instruction stand behind the way into it, no other instruction is
 -- copied, and an exit that is not known leads to the original
