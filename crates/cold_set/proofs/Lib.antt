@@ -1,0 +1,4 @@
+pub mod ColdRounds
+pub mod Members
+pub mod Leading
+pub mod Meeting
