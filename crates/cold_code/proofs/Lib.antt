@@ -1,0 +1,5 @@
+pub mod Upto
+pub mod Searching
+pub mod Walking
+pub mod Trees
+pub mod Meeting

@@ -1,0 +1,16 @@
+//! The code of cold blocks: copies of the original's instructions, and the dispatcher, which leads on by an address
+//! (docs/COLD.md).
+#![tactic(auto)]
+
+mod copies;
+mod dispatching;
+mod ends;
+mod insts;
+mod joining;
+mod members;
+
+pub use copies::copy;
+pub use dispatching::dispatcher;
+
+#[cfg(test)]
+mod tests;
