@@ -1,6 +1,7 @@
 //! Cold starts of small executables. The expected answers were worked out by hand.
 ghost use Rattle.std.specs.Prelude.{◌≡◌, ◌<◌, ◌≤◌, IfOk, length};
 ghost use Rattle.elf_read.specs.Elf.{IsGuest};
+ghost use Rattle.trace_file.specs.Edges.{IsEdges};
 
 use crate::cold_starts;
 use elf_read::{Bytes, Exe, Perms, Segment, Segments};
@@ -43,6 +44,7 @@ fn cold(
 ) -> Result<Vec<u32>, AllocError>
     requires some { 0 < length code.now }
     requires few { length code.now ≤ 100 }
+    requires edges { IsEdges edges.now }
 {
     let exe = with_code(alloc, code)?;
     let edges = Edges::of_list(Vec::from_slice(alloc, edges)?);
