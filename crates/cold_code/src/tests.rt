@@ -62,8 +62,8 @@ fn copies_own_bytes_and_both_ways(rt: HostRuntime) -> Result<(), Fail> {
         &[0x0804_8020],
         &[0x0804_8000, 0x0804_8006],
     )?;
-    let mut expected = Piece::new(rt.alloc());
-    expected.append(&[
+    let mut expected = Vec::new(rt.alloc());
+    expected.extend_from_slice(&[
         Item::Label(0x0804_8000),
         Item::Byte(0xfc),
         Item::Inst(store_number(13, 0)),
@@ -75,9 +75,11 @@ fn copies_own_bytes_and_both_ways(rt: HostRuntime) -> Result<(), Fail> {
         to(Dest::Label(0x0804_8006)),
         Item::Label(1),
     ])?;
-    capture(&mut expected)?;
-    expected.jump(None, Dest::Block(0x0804_8020))?;
-    assert!(rt; piece.items() == expected.items());
+    let mut closing = Piece::new(rt.alloc());
+    capture(&mut closing)?;
+    expected.extend_from_slice(closing.items())?;
+    expected.push(to(Dest::Block(0x0804_8020)))?;
+    assert!(rt; piece.items() == expected.as_slice());
     Ok(())
 }
 
@@ -185,6 +187,13 @@ fn goes_on_behind_64_instructions(rt: HostRuntime) -> Result<(), Fail> {
     Ok(())
 }
 
+/// The items of RESTORE.
+fn restored(alloc: Global, label: u32) -> Result<Vec<Item>, AllocError> {
+    let mut piece = Piece::new(alloc);
+    restore(&mut piece, label)?;
+    piece.items().to_vec(alloc)
+}
+
 #[test]
 fn dispatches_by_halves(rt: HostRuntime) -> Result<(), Fail> {
     let mut piece = Piece::new(rt.alloc());
@@ -194,8 +203,8 @@ fn dispatches_by_halves(rt: HostRuntime) -> Result<(), Fail> {
         &[0x0804_8010],
         &[0x0804_8000, 0x0804_8020],
     )?;
-    let mut expected = Piece::new(rt.alloc());
-    expected.append(&[
+    let mut expected = Vec::new(rt.alloc());
+    expected.extend_from_slice(&[
         Item::Label(0),
         Item::Inst(load(0, 15)),
         Item::Inst(comparison(0x0804_8010)),
@@ -215,18 +224,18 @@ fn dispatches_by_halves(rt: HostRuntime) -> Result<(), Fail> {
         to(Dest::Label(4)),
         Item::Label(1),
     ])?;
-    restore(&mut expected, 8)?;
-    expected.append(&[
+    expected.extend_from_slice(restored(rt.alloc(), 8)?.as_slice())?;
+    expected.extend_from_slice(&[
         to(Dest::Label(0x0804_8000)),
         Item::Label(2),
         to(Dest::Block(0x0804_8010)),
         Item::Label(3),
     ])?;
-    restore(&mut expected, 10)?;
-    expected.append(&[to(Dest::Label(0x0804_8020)), Item::Label(4)])?;
-    restore(&mut expected, 11)?;
-    expected.put(&leave())?;
-    assert!(rt; piece.items() == expected.items());
+    expected.extend_from_slice(restored(rt.alloc(), 10)?.as_slice())?;
+    expected.extend_from_slice(&[to(Dest::Label(0x0804_8020)), Item::Label(4)])?;
+    expected.extend_from_slice(restored(rt.alloc(), 11)?.as_slice())?;
+    expected.push(Item::Inst(leave()))?;
+    assert!(rt; piece.items() == expected.as_slice());
     Ok(())
 }
 
