@@ -6,7 +6,7 @@ use Rattle.top_plan.specs.Happened.{Happened, Answered}
 use Rattle.top_plan.specs.Expected.{IsExact, IsComplete, HasCause}
 use Rattle.top_plan.specs.Partial.{IsPartial, IsOrderly}
 use Rattle.top_plan.specs.Steady.{IsSteady}
-use Rattle.word_reader.specs.Words.{Asked, Builds, Traces, Runs, Merges, Shows, Sessions, Demos, command, first_name}
+use Rattle.word_reader.specs.Words.{Asked, Builds, Traces, Runs, Merges, Shows, Sessions, Demos, Assembles, command, first_name}
 use Rattle.word_reader.specs.Reads.{asked_of}
 use Rattle.word_reader.specs.declared.command.Command.{Command}
 use Rattle.top_build.specs.BuildPlan.{build_plan}
@@ -19,6 +19,8 @@ use Rattle.top_graph.specs.MergePlan.{merge_plan}
 use Rattle.top_graph.specs.MergeMeaning.{MeansMerge}
 use Rattle.top_graph.specs.ShowPlan.{show_plan}
 use Rattle.top_graph.specs.ShowMeaning.{MeansShow}
+use Rattle.top_asm.specs.AsmPlan.{asm_plan}
+use Rattle.top_asm.specs.AsmMeaning.{MeansAsm}
 use Rattle.top_demo.specs.DemoPlan.{demo_plan}
 use Rattle.top_demo.specs.DemoMeaning.{MeansDemo}
 use Rattle.top_session.specs.SessionPlan.{session_plan}
@@ -62,6 +64,7 @@ pub record AreOrderly : Type 0 where
   pub show : (original : List ℕ) (names : List (List ℕ)) → IsOrderly (show_plan original names)
   pub demo : (count : ℕ) → IsOrderly (demo_plan count)
   pub session : (original : List ℕ) → IsOrderly (session_plan original)
+  pub asm : (name text : List ℕ) → IsOrderly (asm_plan name text)
 
 -- what their answers mean
 pub record Meanings : Type 0 where
@@ -73,6 +76,7 @@ pub record Meanings : Type 0 where
   pub show : (original : List ℕ) (names : List (List ℕ)) (s : World) (result : ℕ) (t : World) → Happened (show_plan original names) s result t → MeansShow original names s result t
   pub demo : (count : ℕ) (s : World) (result : ℕ) (t : World) → 1 ≤ count → count ≤ 1000 → Happened (demo_plan count) s result t → MeansDemo count s result t
   pub session : (original : List ℕ) (s : World) (result : ℕ) (t : World) → Happened (session_plan original) s result t → MeansSession original s result t
+  pub asm : (name text : List ℕ) (s : World) (result : ℕ) (t : World) → Happened (asm_plan name text) s result t → MeansAsm name text s result t
 
 -- what a run of any plan comes to
 pub record PlanLaw : Type 0 where
@@ -96,6 +100,7 @@ orderly_of law (Merges target original names) word = law.merge target original n
 orderly_of law (Shows original names) word = law.show original names
 orderly_of law (Sessions original) word = law.session original
 orderly_of law (Demos count) word = law.demo count
+orderly_of law (Assembles name text) word = law.asm name text
 
 orderly : AreOrderly → (read : Result Asked ℕ) (word : ℕ) (p : Plan) → planned read word ≡ Ok p → IsOrderly p
 orderly law (Ok asked) word p is = same_plan (plan_of asked word) p is (orderly_of law asked word)
@@ -119,6 +124,7 @@ pub record AllOf (words : List (List ℕ)) (s : World) (result : ℕ) (t : World
   pub show : (original : List ℕ) (names : List (List ℕ)) → command words ≡ Ok (Shows original names) → MeansShow original names s result t
   pub demo : (count : ℕ) → command words ≡ Ok (Demos count) → MeansDemo count s result t
   pub session : (original : List ℕ) → command words ≡ Ok (Sessions original) → MeansSession original s result t
+  pub asm : (name text : List ℕ) → command words ≡ Ok (Assembles name text) → MeansAsm name text s result t
 
 pub all_of : (words : List (List ℕ)) (s : World) (result : ℕ) (t : World) → PlanLaw → AreOrderly → Meanings → Answered (plan words) s result t → AllOf words s result t
 all_of words s result t law order meanings h =
@@ -140,4 +146,5 @@ all_of words s result t law order meanings h =
       show = λ original names is. meanings.show original names s result t (of_words (Shows original names) is);
       demo = λ count is. let fits = fit_read words (Demos count) is in meanings.demo count s result t fits.0 fits.1 (of_words (Demos count) is);
       session = λ original is. meanings.session original s result t (of_words (Sessions original) is);
+      asm = λ name text is. meanings.asm name text s result t (of_words (Assembles name text) is);
     }

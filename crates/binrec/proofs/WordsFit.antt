@@ -6,7 +6,7 @@ use Rattle.std.specs.Str.{bytes_eq}
 use Rattle.std.specs.Int.Digits.{number_from_digits_after}
 use Rattle.run_model.specs.Opening.{FitArguments, texts, arguments}
 use Rattle.word_reader.specs.Numbers.{are_digits, is_digit, number_of_digits, number_in}
-use Rattle.word_reader.specs.Words.{Asked, Builds, Traces, Runs, Merges, Shows, Sessions, Demos, is_name, next_name, no_more, unless_wrong, or_wrong, first_no_argument, first_no_trace, traces_at, arguments_at, own_bytes, steps_behind, next_steps, build_words, trace_words, run_words, merge_words, show_words, session_words, demo_words, demo_count, command, is_steps, first_name}
+use Rattle.word_reader.specs.Words.{Asked, Builds, Traces, Runs, Merges, Shows, Sessions, Demos, Assembles, is_name, next_name, no_more, unless_wrong, or_wrong, first_no_argument, first_no_trace, traces_at, arguments_at, own_bytes, steps_behind, next_steps, build_words, trace_words, run_words, merge_words, show_words, session_words, demo_words, demo_count, asm_words, command, is_steps, first_name}
 use Rattle.binrec.specs.Words.{Fits, IsFitting}
 
 -- ---- tests
@@ -164,6 +164,10 @@ fit_demo (word ∷ words) = fit_number 1 (number_in 18 word) (λ count. demo_cou
     go count true is = let tests = both (nat_le 1 count) (nat_le count 1000) is in fit_no_more 2 words (Demos count) (leb-true 1 count tests.0, leb-true count 1000 tests.1)
     go count false is = tt
 
+fit_asm : (words : List (List ℕ)) → Fit (asm_words words)
+unfolding Fit
+fit_asm words = fit_name 1 words (λ n words. next_name 2 words (λ text words. no_more 3 words (Assembles n text))) (λ n words. fit_name 2 words (λ text words. no_more 3 words (Assembles n text)) (λ text words. fit_no_more 3 words (Assembles n text) tt))
+
 fit_command : (words : List (List ℕ)) → Fit (command words)
 unfolding Fit command
 fit_command [] = tt
@@ -174,7 +178,8 @@ fit_command (word ∷ words) =
     fit_cond (bytes_eq word (codes "merge")) (merge_words words) _ (fit_merge words) (
     fit_cond (bytes_eq word (codes "show")) (show_words words) _ (fit_show words) (
     fit_cond (bytes_eq word (codes "session")) (session_words words) _ (fit_session words) (
-    fit_cond (bytes_eq word (codes "demo")) (demo_words words) (Err 0) (fit_demo words) tt))))))
+    fit_cond (bytes_eq word (codes "demo")) (demo_words words) _ (fit_demo words) (
+    fit_cond (bytes_eq word (codes "asm")) (asm_words words) (Err 0) (fit_asm words) tt)))))))
 
 -- what a command that was read is given fits
 pub fit_read : (words : List (List ℕ)) (asked : Asked) → command words ≡ Ok asked → IsFitting asked

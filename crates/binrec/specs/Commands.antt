@@ -1,12 +1,13 @@
 -- The commands, each as its plan.
 use Rattle.std.specs.Prelude.{ℕ, ◌+◌, List, Result, Ok, Err}
 use Rattle.top_plan.specs.Plan.{Plan}
-use Rattle.word_reader.specs.Words.{Asked, Builds, Traces, Runs, Merges, Shows, Sessions, Demos, command, first_name}
+use Rattle.word_reader.specs.Words.{Asked, Builds, Traces, Runs, Merges, Shows, Sessions, Demos, Assembles, command, first_name}
 use Rattle.top_build.specs.BuildPlan.{build_plan}
 use Rattle.top_run.specs.RunPlan.{run_plan}
 use Rattle.top_run.specs.TracePlan.{trace_plan}
 use Rattle.top_graph.specs.MergePlan.{merge_plan}
 use Rattle.top_graph.specs.ShowPlan.{show_plan}
+use Rattle.top_asm.specs.AsmPlan.{asm_plan}
 use Rattle.top_demo.specs.DemoPlan.{demo_plan}
 use Rattle.top_session.specs.SessionPlan.{session_plan}
 
@@ -19,6 +20,7 @@ plan_of (Merges target original names) word = merge_plan target original names
 plan_of (Shows original names) word = show_plan original names
 plan_of (Sessions original) word = session_plan original
 plan_of (Demos count) word = demo_plan count
+plan_of (Assembles name text) word = asm_plan name text
 
 abbrev pub planned : Result Asked ℕ → ℕ → Result Plan ℕ
 planned (Ok asked) word = Ok (plan_of asked word)

@@ -8,7 +8,7 @@ ghost use Rattle.top_plan.specs.Happened.{TellsLine, Happened, Answered};
 ghost use Rattle.top_plan.specs.Expected.{IsExact, IsComplete, HasCause};
 ghost use Rattle.top_plan.specs.Partial.{IsPartial};
 ghost use Rattle.top_plan.specs.Steady.{IsSteady};
-ghost use Rattle.word_reader.specs.Words.{Builds, Traces, Runs, Merges, Shows, Sessions, Demos, command, first_name};
+ghost use Rattle.word_reader.specs.Words.{Builds, Traces, Runs, Merges, Shows, Sessions, Demos, Assembles, command, first_name};
 ghost use Rattle.word_reader.specs.Reads.{asked_of};
 ghost use Rattle.top_build.specs.BuildMeaning.{MeansBuild};
 ghost use Rattle.top_build.specs.Spelled.{AreSpelled, AreOnly};
@@ -16,6 +16,7 @@ ghost use Rattle.top_run.specs.RunMeaning.{MeansRun};
 ghost use Rattle.top_run.specs.TraceMeaning.{MeansTrace};
 ghost use Rattle.top_graph.specs.MergeMeaning.{MeansMerge};
 ghost use Rattle.top_graph.specs.ShowMeaning.{MeansShow};
+ghost use Rattle.top_asm.specs.AsmMeaning.{MeansAsm};
 ghost use Rattle.top_demo.specs.DemoMeaning.{MeansDemo};
 ghost use Rattle.top_session.specs.SessionMeaning.{MeansSession};
 ghost use Rattle.binrec.specs.Words.{IsFitting};
@@ -25,6 +26,7 @@ ghost use Rattle.binrec.specs.Meaning.{MeansUsage};
 use crate::words::read_command;
 use br_outside::{Shelf, Sink, Source};
 use std::alloc::Global;
+use top_asm::{asm_command, asm_command_law};
 use top_build::{build_command, build_law};
 use top_demo::{demo_command, demo_law};
 use top_graph::{merge_command, merge_law, show_command, show_law};
@@ -98,6 +100,7 @@ fn answer<F: Shelf, I: Source, O: Sink, R: Sink>(
             tell_end(report, end)
         }
         Command::Demo { count } => tell_end(report, demo_command(alloc, out, count)),
+        Command::Asm { n, text } => tell_end(report, asm_command(alloc, shelf, n, text)),
     }
 }
 
@@ -112,10 +115,11 @@ fn answer<F: Shelf, I: Source, O: Sink, R: Sink>(
 /// | `show E T..` | prints the listing of the blocks that the traces of E have seen | `shown B`, B the number of blocks |
 /// | `session E` | does what the lines of `input` ask: `add NAME`, `remove K`, `emit NAME` | `lines Q`, Q the number of lines |
 /// | `demo K` | traces a program with K functions, builds it with that trace, runs both, and prints one line | none |
+/// | `asm N TEXT` | stores as N the executable that the source TEXT stands for, in the notation of the listing | `assembled L`, L the length of N in bytes |
 ///
 /// A name is a text of 1 to 4096 bytes; at most 4096 traces are fetched. K is 1 to 18 decimal digits, and
 /// 100000000 where it is not given; that of `demo` is from 1 to 1000. A guest takes its input of `input`, prints on `out` and reports on
-/// `report`; `build`, `merge`, `show` and `demo` take nothing, and of these `show` and `demo` print. A session prints a line for each that
+/// `report`; `build`, `merge`, `show`, `demo` and `asm` take nothing, and of these `show` and `demo` print. A session prints a line for each that
 /// it has done, and may take up to 4096 bytes beyond its lines. `demo` answers 0, 3 or 4 and, where its
 /// words are wrong, 1; it calls no file. S is the guest's status, M the number of its
 /// steps, U how many of them read a flag that was not defined, and P a number of edges.
@@ -126,7 +130,7 @@ fn answer<F: Shelf, I: Source, O: Sink, R: Sink>(
 /// - 1: the words are no command. `usage W`, W the position of the first wrong word, from 0, or the number of words where one is
 ///   missing.
 /// - 2: a file is refused, the first in the order of the words. `refused word W K P`, with the position of its word, the
-///   refusal's number and its place in the file. `refused line Q K P` for line Q of a session.
+///   refusal's number and its place in the file, for the source of `asm` its line. `refused line Q K P` for line Q of a session.
 /// - 3: a call of an object failed, or a name is absent, or the report line could not be given. `outside shelf`,
 ///   `outside input`, `outside output` or `outside report`.
 /// - 4: memory was wanting. `memory`.
@@ -147,7 +151,7 @@ fn answer<F: Shelf, I: Source, O: Sink, R: Sink>(
 /// objects that tell what they hold the answer is the expected one, unless memory is wanting or an object fails; `partial`,
 /// what an interrupted command leaves is a front part of what the whole one does; `cause`, status 3 names an object whose
 /// count rose; `steady`, a fault stands at the call that met it: the counts rise as the status says and no more; `usage`,
-/// `build`, `run`, `trace`, `merge`, `show`, `demo` and `session`, what the statuses mean; `spelled` and `only`, what a step
+/// `build`, `run`, `trace`, `merge`, `show`, `demo`, `session` and `asm`, what the statuses mean; `spelled` and `only`, what a step
 /// finds is what the table of spellings says.
 pub fn binrec<F: Shelf, I: Source, O: Sink, R: Sink>(
     alloc: Global,
@@ -208,6 +212,10 @@ pub fn binrec<F: Shelf, I: Source, O: Sink, R: Sink>(
         → MeansSession original
         (world (F.seen shelf.old) (I.seen input.old) (O.seen out.old) (R.seen report.old)) result.0
         (world (F.seen shelf.new) (I.seen input.new) (O.seen out.new) (R.seen report.new)) }
+    ensures asm { (name text : List ℕ) → command (map string_bytes words.now) ≡ Ok (Assembles name text)
+        → MeansAsm name text
+        (world (F.seen shelf.old) (I.seen input.old) (O.seen out.old) (R.seen report.old)) result.0
+        (world (F.seen shelf.new) (I.seen input.new) (O.seen out.new) (R.seen report.new)) }
     ensures spelled { AreSpelled }
     ensures only { AreOnly }
 {
@@ -219,6 +227,7 @@ pub fn binrec<F: Shelf, I: Source, O: Sink, R: Sink>(
     show_law();
     demo_law();
     session_law();
+    asm_command_law();
     match read_command(words) {
         Ok(command) => {
             let first = first_name(words);

@@ -8,6 +8,7 @@ use Rattle.top_run.specs.RunPlan.{run_plan}
 use Rattle.top_run.specs.TracePlan.{trace_plan}
 use Rattle.top_graph.specs.MergePlan.{merge_plan}
 use Rattle.top_graph.specs.ShowPlan.{show_plan}
+use Rattle.top_asm.specs.AsmPlan.{asm_plan}
 use Rattle.top_demo.specs.DemoPlan.{demo_plan}
 use Rattle.top_session.specs.SessionPlan.{session_plan}
 use Rattle.binrec.specs.Words.{Fits}
@@ -102,3 +103,11 @@ returns-in-Session g c =
     let t = world (g.F.Shelf.seen c.session_command-end.new.shelf) (g.I.Source.seen c.session_command-end.new.input) (g.O.Sink.seen c.session_command-end.new.out) (g.R.Sink.seen c.tell_end-in-Session.new.report) in
     let h : Happened (session_plan c.in-Session.e.now) s c.tell_end-in-Session.result t = (end_of c.session_command-end.result, m, c.session_command-end.ensures s, (_, c.tell_end-in-Session.ensures, refl)) in
     answers_as _ _ c.args.first s _ t c.in-Session.is h
+
+pub returns-in-Asm : goal.returns-in-Asm
+returns-in-Asm g c =
+    let s = world (g.F.Shelf.seen c.args.shelf.now) (g.I.Source.seen c.args.input.now) (g.O.Sink.seen c.args.out.now) (g.R.Sink.seen c.args.report.now) in
+    let m = world (g.F.Shelf.seen c.asm_command.new.shelf) (g.I.Source.seen c.args.input.now) (g.O.Sink.seen c.args.out.now) (g.R.Sink.seen c.args.report.now) in
+    let t = world (g.F.Shelf.seen c.asm_command.new.shelf) (g.I.Source.seen c.args.input.now) (g.O.Sink.seen c.args.out.now) (g.R.Sink.seen c.tell_end-in-Asm.new.report) in
+    let h : Happened (asm_plan c.in-Asm.n.now c.in-Asm.text.now) s c.tell_end-in-Asm.result t = (end_of c.asm_command.result, m, c.asm_command.ensures s, (_, c.tell_end-in-Asm.ensures, refl)) in
+    answers_as _ _ c.args.first s _ t c.in-Asm.is h

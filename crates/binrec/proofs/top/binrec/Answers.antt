@@ -23,10 +23,10 @@ returns-in-Ok g c =
       cause = c.plan_law.ensures.cause;
       steady = c.plan_law.ensures.steady;
     })
-    (record { build = c.build_law.ensures.orderly; run = c.run_law.ensures.orderly; trace = c.trace_law.ensures.orderly; merge = c.merge_law.ensures.orderly; show = c.show_law.ensures.orderly; demo = c.demo_law.ensures.orderly; session = c.session_law.ensures.orderly })
-    (record { build = c.build_law.ensures.means; run = c.run_law.ensures.means; trace = c.trace_law.ensures.means; merge = c.merge_law.ensures.means; show = c.show_law.ensures.means; demo = c.demo_law.ensures.means; session = c.session_law.ensures.means })
+    (record { build = c.build_law.ensures.orderly; run = c.run_law.ensures.orderly; trace = c.trace_law.ensures.orderly; merge = c.merge_law.ensures.orderly; show = c.show_law.ensures.orderly; demo = c.demo_law.ensures.orderly; session = c.session_law.ensures.orderly; asm = c.asm_command_law.ensures.orderly })
+    (record { build = c.build_law.ensures.means; run = c.run_law.ensures.means; trace = c.trace_law.ensures.means; merge = c.merge_law.ensures.means; show = c.show_law.ensures.means; demo = c.demo_law.ensures.means; session = c.session_law.ensures.means; asm = c.asm_command_law.ensures.means })
     (asked_for (λ r. Answered r s c.answer.result t) words (asked_of c.in-Ok.command) c.first_name-first.result c.in-Ok.ensures.reads c.first_name-first.ensures c.answer.ensures) in
-    record { happened = a.happened; exact = a.exact; complete = a.complete; partial = a.partial; cause = a.cause; steady = a.steady; usage = a.usage; build = a.build; run = a.run; trace = a.trace; merge = a.merge; show = a.show; demo = a.demo; session = a.session; spelled = c.build_law.ensures.spelled; only = c.build_law.ensures.only }
+    record { happened = a.happened; exact = a.exact; complete = a.complete; partial = a.partial; cause = a.cause; steady = a.steady; usage = a.usage; build = a.build; run = a.run; trace = a.trace; merge = a.merge; show = a.show; demo = a.demo; session = a.session; asm = a.asm; spelled = c.build_law.ensures.spelled; only = c.build_law.ensures.only }
 
 pub returns-in-Err : goal.returns-in-Err
 returns-in-Err g c =
@@ -42,7 +42,7 @@ returns-in-Err g c =
       cause = c.plan_law.ensures.cause;
       steady = c.plan_law.ensures.steady;
     })
-    (record { build = c.build_law.ensures.orderly; run = c.run_law.ensures.orderly; trace = c.trace_law.ensures.orderly; merge = c.merge_law.ensures.orderly; show = c.show_law.ensures.orderly; demo = c.demo_law.ensures.orderly; session = c.session_law.ensures.orderly })
-    (record { build = c.build_law.ensures.means; run = c.run_law.ensures.means; trace = c.trace_law.ensures.means; merge = c.merge_law.ensures.means; show = c.show_law.ensures.means; demo = c.demo_law.ensures.means; session = c.session_law.ensures.means })
+    (record { build = c.build_law.ensures.orderly; run = c.run_law.ensures.orderly; trace = c.trace_law.ensures.orderly; merge = c.merge_law.ensures.orderly; show = c.show_law.ensures.orderly; demo = c.demo_law.ensures.orderly; session = c.session_law.ensures.orderly; asm = c.asm_command_law.ensures.orderly })
+    (record { build = c.build_law.ensures.means; run = c.run_law.ensures.means; trace = c.trace_law.ensures.means; merge = c.merge_law.ensures.means; show = c.show_law.ensures.means; demo = c.demo_law.ensures.means; session = c.session_law.ensures.means; asm = c.asm_command_law.ensures.means })
     (not_asked (λ r. Answered r s c.tell_usage.result t) words c.in-Err.word c.in-Err.ensures.reads (_, c.tell_usage.ensures, refl)) in
-    record { happened = a.happened; exact = a.exact; complete = a.complete; partial = a.partial; cause = a.cause; steady = a.steady; usage = a.usage; build = a.build; run = a.run; trace = a.trace; merge = a.merge; show = a.show; demo = a.demo; session = a.session; spelled = c.build_law.ensures.spelled; only = c.build_law.ensures.only }
+    record { happened = a.happened; exact = a.exact; complete = a.complete; partial = a.partial; cause = a.cause; steady = a.steady; usage = a.usage; build = a.build; run = a.run; trace = a.trace; merge = a.merge; show = a.show; demo = a.demo; session = a.session; asm = a.asm; spelled = c.build_law.ensures.spelled; only = c.build_law.ensures.only }

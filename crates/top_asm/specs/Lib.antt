@@ -1,0 +1,2 @@
+pub mod AsmPlan
+pub mod AsmMeaning
