@@ -3,7 +3,7 @@
 # and one that does not stand here is said to wait.
 #   build0 is `build N E` without traces, build the same with traces; the words are those of ../shared/check/compare.py, as the stage is.
 built_stage=registers
-built_commands=build0,run,trace,merge,show,build,demo,session
+built_commands=build0,run,trace,merge,show,build,demo,session,asm
 
 # Whether a command is built.
 is_built() { [[ ,$built_commands, == *",$1,"* ]]; }

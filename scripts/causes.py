@@ -11,12 +11,13 @@ USAGE = {
     "show": "show E T..                    E the executable, T its traces",
     "session": "session E                     E the executable; the lines of the input: add NAME, remove K, emit NAME",
     "demo": "demo K                        K the number of functions, 1 to 1000",
+    "asm": "asm N TEXT                    N the file to write, TEXT its source",
 }
 
 # A report line. It is the end of standard error, behind a guest's own bytes there.
 REPORT = ("exit [0-9]+ steps [0-9]+ undefined [0-9]+(?: edges [0-9]+)?|fault [a-z]+ [0-9a-f]{8} steps [0-9]+ undefined [0-9]+(?: edges [0-9]+)?|"
           "budget steps [0-9]+ undefined [0-9]+(?: edges [0-9]+)?|usage [0-9]+|refused (?:word|line) [0-9]+ [0-9]+ [0-9]+|"
-          "outside [a-z]+|limit [a-z]+ [0-9]+|memory|built [0-9]+ [0-9]+ [0-9]+|merged [0-9]+|shown [0-9]+|lines [0-9]+")
+          "outside [a-z]+|limit [a-z]+ [0-9]+|memory|built [0-9]+ [0-9]+ [0-9]+|merged [0-9]+|shown [0-9]+|lines [0-9]+|assembled [0-9]+")
 
 # By number: the cause, and the cure.
 REFUSALS = {
@@ -42,10 +43,15 @@ REFUSALS = {
     26: ("the trace has more than 2000000 pairs", "keep the pairs in several traces"),
     31: ("the line is none of `add NAME`, `remove K`, `emit NAME` and the empty line", "one space after the word, a name of 1 to 4096 bytes, a number of 1 to 9 digits"),
     32: ("no live trace has the number", "`added K` says which number a trace has; `remove` takes it away once"),
+    41: ("the line has none of the forms of a source",
+         "empty; `NAME:`; two spaces and `byte` with 1 to 64 bytes of two digits; two spaces and an instruction as `show` prints it, or a jump or call with a label"),
+    42: ("the label stands for the second time", "each label stands once: rename one, and the lines that go to it"),
+    43: ("the label that is used stands nowhere", "have a line `NAME:` before what it stands for, or mend the name"),
+    44: ("the lines give no bytes", "an executable has at least one byte of code"),
 }
 
 LIMITS = {
-    "file": "a file is larger than is read: an original or a trace at most 16777216 bytes, an executable for `run` at most 268435456",
+    "file": "a file is larger than is read: an original, a trace or a source at most 16777216 bytes, an executable for `run` at most 268435456",
     "edges": "the traces have together more pairs than are joined: merge some of them first",
     "union": "there are more different edges than a trace may have: trace shorter runs, or give fewer traces",
     "blocks": "the traces lead to more than 65536 blocks: give fewer traces",
@@ -60,7 +66,8 @@ def positions(words):
     command = words[0] if words else ""
     skipped = 2 if command in ("run", "trace") and words[1:2] == ["--steps"] else 0
     roles = {"build": ["stored", "original", "trace"], "run": ["guest", "word"], "trace": ["stored", "original", "word"],
-             "merge": ["stored", "original", "trace"], "show": ["original", "trace"], "session": ["original"]}.get(command, [])
+             "merge": ["stored", "original", "trace"], "show": ["original", "trace"], "session": ["original"],
+             "asm": ["stored", "source"]}.get(command, [])
     found = {}
     for at in range(1 + skipped, len(words)):
         found[at] = roles[min(at - 1 - skipped, len(roles) - 1)] if roles else "word"
@@ -97,8 +104,8 @@ def wrong_word(words, at):
         return f"`{word}` is no number of steps: 1 to 18 decimal digits"
     if words[0] == "demo" and at == 1:
         return f"`{word}` is no number from 1 to 1000"
-    if words[0] in ("session", "demo") and at == 2:
-        return "word 2 is one too many"
+    if at == {"session": 2, "demo": 2, "asm": 3}.get(words[0]):
+        return f"word {at} is one too many"
     if positions(words)[at] == "word":
         return f"word {at} is one too many: a guest has at most 256 words, and 65536 bytes with a zero byte each"
     if length == 0 or length > 4096:
@@ -147,7 +154,17 @@ def finer(number, place, data):
 
 def explain_refusal(words, report):
     _, _, at, number, place = report.split()
+    if words[0] == "asm":
+        return source_lines(words[int(at)], int(number), int(place))
     return refusal_lines(words[int(at)], int(number), place)
+
+
+def source_lines(name, number, line):
+    """The cause and the cure of a refusal of a source, with its line as far as the source is at hand."""
+    cause, cure = REFUSALS[number]
+    texts = (executables.content(name) or b"").split(b"\n")
+    shown = f": {os.fsdecode(texts[line - 1])[:80]!r}" if 0 < line <= len(texts) else ""
+    return [f"{name}{f', line {line}' if line else ''}: {cause}{shown} (number {number})", f"cure: {cure}"]
 
 
 def explain_line(script, report):
@@ -207,7 +224,7 @@ def told(troubles, names):
 def explain_shelf(words, script):
     if words[0] == "session":
         return explain_session_shelf(words, script)
-    read, stored = names_of(words, "original", "guest", "trace"), names_of(words, "stored")
+    read, stored = names_of(words, "original", "guest", "trace", "source"), names_of(words, "stored")
     return told([executables.file_trouble(name) for name in read] + [store_trouble(name) for name in stored], read + stored)
 
 

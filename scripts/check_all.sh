@@ -86,6 +86,7 @@ if [ -x "$program" ]; then
     check 'real programs' scripts/check_programs.sh "$program"
     check_with 'python3 objdump' 'spellings, by show' \
         python3 scripts/check_spellings.py --seed "$(date +%Y%m%d)" python3 scripts/decode_by_show.py "$program"
+    check_with 'python3 objdump' 'sources, by show and asm' python3 scripts/check_sources.py "$program"
     check_with 'python3 objdump' 'lengths of a fast reading' python3 scripts/check_lengths.py --seed "$(date +%Y%m%d)" "$program"
     tools_of_users
     compare

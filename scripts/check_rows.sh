@@ -81,6 +81,60 @@ demo_rows() {
 }
 
 # The first refusal of each file, with its place; nothing is stored.
+# A source under the name S, whose text is given as by printf, is assembled: the report, and the last bytes of N.
+asm_row() {
+    local name="asm, $1" report=$3 ends=${4:-}
+    printf "$2" > S
+    rm -f N
+    row "$name" 0 '' "$report\n" asm N S
+    bytes "$ends" > end
+    if tail -c "$(wc -c < end)" N | cmp -s - end; then pass; else fail "$name: the file ends otherwise"; fi
+}
+
+# A source of the text, given as by printf, is refused with the number and the line.
+refused_source() {
+    printf "$1" > S
+    row_keeping "asm of \"$1\"" 2 '' "refused word 2 $2\n" asm N S
+}
+
+asm_rows() {
+    local line
+    asm_row 'a small program' '  mov eax, 0x00000004\n  mov ebx, 0x00000001\n  mov ecx, 0x08048076\n  mov edx, 0x00000003\n  int 0x80\n  mov eax, 0x00000001\n  mov ebx, 0x00000000\n  int 0x80\n  byte 68690a\n' 'assembled 121' '68690a'
+    if cmp -s N X1; then pass; else fail 'asm, a small program: another file'; fi
+    asm_row 'a jump to itself' 'a:\n  jmp a\n' 'assembled 89' 'e9fbffffff'
+    asm_row 'a last line without an end' '  nop' 'assembled 85' '90'
+    asm_row 'a jump forward' '  jo a\na:\n' 'assembled 90' '0f8000000000'
+    asm_row 'a label that is a mnemonic of a source' 'byte:\n  jmp byte\n' 'assembled 89' 'e9fbffffff'
+    for line in '  mov eax, 4' 'eax:' 'A:' '1a:' ':' 'a: ' '\tnop' '  nop ' '  nop\r' '  byte 6' '  byte 6A' '  byte 68 69' '  jmp 8048054' '  push 0x01' '  ret 0x0000' \
+        '  mov eax, [eax]' '  lea eax, dword [eax]' '  inc dword [eax*3]' '  inc dword [esp*1]' '  mov  eax, 0x00000001' '  jmp al' "  byte $(printf '%0130d' 0)" "$(printf 'a%064d' 0):"; do
+        refused_source "$line\n" '41 1'
+    done
+    asm_row '64 bytes' "  byte $(printf '%0128d' 0)\n" 'assembled 148' '00'
+    asm_row 'a label of 64 characters' "$(printf 'a%063d' 0):\n  nop\n" 'assembled 85' '90'
+    refused_source 'a:\na:\n' '42 2'
+    refused_source 'a:\na:\n  foo\n' '42 2'
+    refused_source '  jmp b\n  foo\n' '41 2'
+    refused_source '  nop\n  nop\n  n\200p\n' '41 3'
+    refused_source '  jmp b\n' '43 1'
+    refused_source '  nop\n  jz b\n' '43 2'
+    refused_source '' '44 0'
+    refused_source '\n\n\n' '44 0'
+    refused_source 'a:\n' '44 0'
+    head -c 16777217 /dev/zero | tr '\0' '\n' > S
+    row_keeping 'asm of a source that is too long' 7 '' 'limit file 16777216\n' asm N S
+    head -c 16777216 S > S2
+    row_keeping 'asm of 16777216 line feeds' 2 '' 'refused word 2 44 0\n' asm N S2
+    yes '  nop' | head -n 2796202 > S
+    row 'asm of many instructions' 0 '' 'assembled 2796286\n' asm N S
+    { echo 'a:'; yes '  jo a' | head -n 2396744; } > S
+    row 'asm of many jumps' 0 '' 'assembled 14380548\n' asm N S
+    row 'asm without a source' 1 '' 'usage 2\n' asm N
+    row 'asm with a word too many' 1 '' 'usage 3\n' asm N S S
+    row 'asm of an empty name' 1 '' 'usage 2\n' asm N ''
+    row_keeping 'asm of a source that is not there' 3 '' 'outside shelf\n' asm N nowhere
+    rm -f N S S2
+}
+
 refusal_rows() {
     : > empty
     row_keeping 'an empty file' 2 '' 'refused word 2 1 0\n' build N empty
@@ -412,5 +466,8 @@ if expects demo; then
 fi
 if expects session; then
     session_rows
+fi
+if expects asm; then
+    asm_rows
 fi
 finish

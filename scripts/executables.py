@@ -111,6 +111,16 @@ def is_recompiled(data):
     return is_elf(data) and entry(data) == RECOVERED and starts[:2] == [RECOVERED, 0x07000000]
 
 
+FLAT = bytes.fromhex("7f454c46010101000000000000000000 0200030001000000 54800408 34000000 00000000 00000000 3400 2000 0100 0000 0000 0000"
+                     "01000000 00000000 00800408 00800408")
+
+
+def is_assembled(data):
+    """Whether the file is as `asm` writes one: its headers and one segment that is the whole file, from 08048000 on."""
+    size = len(data).to_bytes(4, "little")
+    return len(data) > 84 and data[:84] == FLAT + size + size + bytes.fromhex("05000000 00100000")
+
+
 def is_written_from(data, original):
     """Whether a file that BinRec wrote has the segments of this original, behind its own two."""
     def told(segments):

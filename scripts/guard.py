@@ -50,6 +50,11 @@ def written_loss(held, words):
     return ours("was written from another executable", "name another file")
 
 
+def assembled_loss(held):
+    """What would be lost where `asm` stores a file, or None."""
+    return None if executables.is_assembled(held) else other("is no file as `asm` writes one")
+
+
 def name_loss(name, words):
     """What would be lost under a name that is stored, or None."""
     held = executables.content(name)
@@ -57,6 +62,8 @@ def name_loss(name, words):
         return other("may not be read, so nobody knows what it is")
     if not held:
         return None
+    if words[0] == "asm":
+        return other("is the source itself") if same_file(name, causes.names_of(words, "source")[0]) else assembled_loss(held)
     if same_file(name, causes.names_of(words, "original")[0]):
         return other("is the executable itself")
     return written_loss(held, words) if words[0] in ("build", "session") else trace_loss(name, held, words)
@@ -64,7 +71,7 @@ def name_loss(name, words):
 
 def losses(words, script):
     """Each name that is stored and would lose something, as it is shown, with its loss. Names of a script may have any character."""
-    if not causes.names_of(words, "original"):
+    if not causes.names_of(words, "original", "source"):
         return
     stored = [(name, name) for name in causes.names_of(words, "stored")]
     stored += [(name, repr(name)) for name in dict.fromkeys(causes.names_in(script, "emit"))]

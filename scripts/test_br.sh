@@ -69,6 +69,26 @@ loss_rows() {
 }
 
 # NAME STATUS PATTERN SCRIPT: as `told`, of a session over E that follows the script.
+source_rows() {
+    printf '  nop\n' > source
+    told 'asm' 0 '^assembled 85$' asm assembled source
+    told 'asm over an assembled file' 0 '^assembled 85$' asm assembled source
+    kept 'asm over another file' notes 'notes is no file as `asm` writes one.*--force does it' asm notes source
+    kept 'asm over the source' source 'source is the source itself' asm source source
+    kept 'asm over a file that BinRec wrote' otherN 'otherN is no file as `asm` writes one' asm otherN source
+    printf 'a:\n  mov eax, 4\n' > source
+    told 'a line of no form' 2 'source, line 2: the line has none of the forms of a source: .  mov eax, 4. .number 41.' asm fresh source
+    printf 'a:\n  jmp b\n' > source
+    told 'a label that stands nowhere' 2 'source, line 2: the label that is used stands nowhere: .  jmp b. .number 43.' asm fresh source
+    printf 'a:\na:\n' > source
+    told 'a label that stands twice' 2 'source, line 2: the label stands for the second time' asm fresh source
+    printf 'a:\n' > source
+    told 'a source without bytes' 2 '^br: source: the lines give no bytes .number 44.$' asm fresh source
+    told 'a source that is not there' 3 'there is no file nowhere' asm fresh nowhere
+    told 'a word too many of asm' 1 'word 3 is one too many' asm fresh source source
+    told 'a source that is not named' 1 'usage: asm N TEXT' asm fresh
+}
+
 session_told() {
     printf "$4" > script
     input=script
@@ -390,6 +410,7 @@ executable zero 'b801000000 bb00000000 cd80'
 chmod +x zero
 find_native ./zero
 loss_rows
+source_rows
 leave_rows
 session_rows
 end_rows
