@@ -60,6 +60,7 @@ tools_of_users() {
     check_with 'python3 objdump' 'fits' scripts/test_fits.sh "$program"
     check_with 'python3 objdump' 'info' scripts/test_info.sh "$program"
     check_with 'python3 objdump gcc nm' 'cc32' scripts/test_cc32.sh "$program"
+    check_with 'python3 objdump' 'other compilers and assemblers' scripts/test_compilers.sh "$program"
     check_with 'python3 objdump' 'coverage and graph' scripts/test_coverage.sh "$program"
     check_with python3 'traces of real runs' scripts/test_record.sh "$program"
     check 'stores' scripts/test_stores.sh "$program"

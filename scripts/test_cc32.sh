@@ -33,6 +33,21 @@ _start: movl $1, %eax
         int $0x80
 S
 case_of 'assembly with its own _start' 0 '^none of its 3 instructions is outside' -o A start.s
+sed 's/_start/begin/' start.s > begin.s
+case_of 'another entry, by a flag' 0 '^none of its 3 instructions is outside' -o B begin.s -Wl,-e,begin
+case_of 'the entry that the flag names' 0 "^accepted: B is an original, with . segments and the entry $(nm B | sed -n 's/ T begin$//p')\$" -o B begin.s -Wl,-e,begin
+case_of 'the same by --entry' 0 '^none of its 3' -o B begin.s -Wl,--entry=begin
+case_of 'the same by -e' 0 '^none of its 3' -o B begin.s -e begin
+case_of 'an entry that no source has' 2 'no source defines start or guest_main' -o B begin.s -Wl,-e,start
+for flag in -c -S -E; do case_of "$flag" 2 "^cc32: $flag makes no executable, and cc32 links one; use .gcc" "$flag" guest.c; done
+# A flag reaches the start file: with debug information it names its source, and a macro of the flag breaks it.
+case_of 'debug information' 0 '^accepted' -o G guest.c -g
+if objdump --dwarf=info G | grep -q 'guest\.c' && objdump --dwarf=info G | grep -q 'programs/src/guest.c'; then pass; else fail 'the start file has no debug information'; fi
+case_of 'a macro for the start file' 2 'error' -o X guest.c '-Dwaiting=]'
+# What the text of the refusal of -c says: an object by the flags, and cc32 links it.
+"$here/cc32" --flags > flags
+# shellcheck disable=SC2046
+gcc $(cat flags) "-I$here/../programs/src" -c guest.c && case_of 'an object' 0 '^accepted' -o O guest.o
 echo 'int main(void) { return 0; }' > main.c
 case_of 'main alone' 2 'no source defines _start or guest_main' main.c
 case_of 'a linker without an entry' 2 'the linker found no entry' -o X guest.c -Wl,-e,nowhere
