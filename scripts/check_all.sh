@@ -65,6 +65,7 @@ tools_of_users() {
     check_with python3 'traces of real runs' scripts/test_record.sh "$program"
     check 'stores' scripts/test_stores.sh "$program"
     check_with 'python3 objdump gcc nm' 'a first use' examples/first_use.sh "$program"
+    check 'the demonstration of README' scripts/test_readme.sh "$program"
     check_with python3 'the docs' scripts/test_docs.sh
 }
 
