@@ -56,6 +56,7 @@ does 'br info count T N' 'count: an original' '  SHA-256 [0-9a-f]{64}' "  versio
 does 'chmod +x N'
 does './N < two.txt' '0 6 23'
 does './N o < one.txt' 6
+does 'br where N 01000100 count T' '01000100: byte [0-9]+ of [0-9]+ in the code of this block:' 'block 080[0-9a-f]{5} \(.*\)'
 does 'cc32 -o greet greet.c' "none of its $number instructions is outside the subset"
 does 'echo Ada | br run greet "Who is there"' 'Who is there\? Hello, Ada.' "exit 0 steps $number undefined 0"
 does 'coverage --functions --html count.html count T1' "function 080[0-9a-f]{5} print_number: seen $number, not seen $number, .*" "seen $number of $number instructions .*"

@@ -59,6 +59,7 @@ tools_of_users() {
     check_with python3 'the front br' scripts/test_br.sh "$program"
     check_with 'python3 objdump' 'fits' scripts/test_fits.sh "$program"
     check_with 'python3 objdump' 'info' scripts/test_info.sh "$program"
+    check_with 'python3 objdump' 'where' scripts/test_where.sh "$program"
     check_with 'python3 objdump gcc nm' 'cc32' scripts/test_cc32.sh "$program"
     check_with 'python3 objdump' 'other compilers and assemblers' scripts/test_compilers.sh "$program"
     check_with 'python3 objdump' 'coverage and graph' scripts/test_coverage.sh "$program"

@@ -55,4 +55,5 @@ def where(words, report, kept):
     if not lines:
         return ["gdb did not come to the fault: the processor may not run 32-bit executables, or goes another way"]
     address = int(lines[0].split()[1], 16)
-    return [f"step {steps_of(report)} at {address:08x}: {causes.instruction_at(address, data)}", *lines[2:]]
+    hint = [f"`br where {name} {address:08x} E T..` says which block of the original E this is"] if executables.is_recompiled(data) else []
+    return [f"step {steps_of(report)} at {address:08x}: {causes.instruction_at(address, data)}", *hint, *lines[2:]]
