@@ -47,6 +47,24 @@ executable F 'b801000000 cd80 c3 eb00 90 c3'
 "$BINREC" build N F false 2> built
 case_of 'a block that nothing leads to' 1 'recovered code, whose block is not told' N 0100006a F false
 
+# A division by 0 in recovered code: from the fault of N, by br and gdb, to the division of the original.
+executable G '31c9 f7f1'
+"$BINREC" trace TG G < /dev/null 2> /dev/null
+"$BINREC" build NG G TG 2> /dev/null
+if ! command -v gdb > /dev/null; then
+    skip 'from a fault to its block: no gdb'
+else
+    "$here/br" --where run NG < /dev/null > got.out 2>&1
+    at=$(sed -n 's/^br: `br where NG \([0-9a-f]*\) E T..` says which block of the original E this is$/\1/p' got.out)
+    if [ -n "$at" ]; then
+        case_of 'from a fault to its block' 0 '^  08048056 div ecx$' NG "$at" G TG
+    elif grep -q 'gdb did not come to the fault' got.out; then
+        skip 'from a fault to its block: gdb runs no 32-bit executable here'
+    else
+        fail "br does not say how to find the block: $(cat got.out)"
+    fi
+fi
+
 # Real programs: every fragment has one block, in order; where the block is a native instruction, its bytes stand in the fragment, and where it is none, CD 80 does not.
 for binary in "$here"/../programs/bin/*; do
     name=$(basename "$binary")
