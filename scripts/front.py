@@ -2,7 +2,7 @@
 
 usage: br [--replace] [--force] [--where] COMMAND WORD..      as the command of the program
        br record [--merge | --replace] T E WORD.. runs E for real and stores its trace (br record --help)
-       br info FILE..                             as the script of this name
+       br info FILE.. | br where N ADDRESS E T..  as the scripts of these names
        br --help | --version
 
 Words and streams go to the program unchanged, and br ends with its status. Before that it refuses to replace a file that nobody can make
@@ -31,7 +31,7 @@ import session_script
 
 REFUSED, FAILED, NO_PROGRAM = 8, 9, 127
 # Scripts beside br, which it hands on to as if they were commands.
-SCRIPTS = ("info",)
+SCRIPTS = ("info", "where")
 
 
 def say(text):

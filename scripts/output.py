@@ -33,6 +33,10 @@ class CheckedOutput:
         except OSError as e:
             raise OutputFailed(e) from e
 
+    @property
+    def buffer(self):
+        return CheckedOutput(self.stream.buffer)
+
     def __getattr__(self, name):
         return getattr(self.stream, name)
 
