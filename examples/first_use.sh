@@ -11,7 +11,7 @@ export BINREC=${BINREC-} PATH=$top/scripts:$PATH
 for tool in gcc nm objdump python3; do
     command -v "$tool" > /dev/null || { echo "first_use.sh: no $tool" >&2; exit 3; }
 done
-folder=$(mktemp -d) && cp "$here"/*.c "$here"/*.txt "$folder" && cd "$folder" || exit 3
+folder=$(mktemp -d) && cp "$here"/*.c "$here"/*.txt "$here"/*.asm "$folder" && cd "$folder" || exit 3
 trap 'rm -rf "$folder"' EXIT
 find_native "$top/programs/bin/hash"
 [ "$native_kind" = processor ] || skip 'what the machine runs by itself: it runs no 32-bit executable'
@@ -61,6 +61,8 @@ does 'cc32 -o greet greet.c' "none of its $number instructions is outside the su
 does 'echo Ada | br run greet "Who is there"' 'Who is there\? Hello, Ada.' "exit 0 steps $number undefined 0"
 does 'coverage --functions --html count.html count T1' "function 080[0-9a-f]{5} print_number: seen $number, not seen $number, .*" "seen $number of $number instructions .*"
 does "printf 'add T1\nemit N\nadd T2\nemit N\nremove 1\nemit N2\n' | br session count" 'added 1' "emitted $number $number $number made $number" 'added 2' 'removed 1' 'lines 6'
+does 'br asm hi hi.asm' 'assembled 133'
+does 'br run hi' hi 'exit 0 steps 15 undefined 0'
 does 'br demo 1' "demo 1 file 137 blocks 7 code $number image $number out 588139be 588139be steps 15 $number"
 
 # The page has these commands and no other.
