@@ -14,6 +14,7 @@ import argparse, collections, hashlib, os, shlex, shutil, struct, subprocess, sy
 
 TOP = os.path.dirname(os.path.dirname(os.path.abspath(__file__)))
 STAGE = "R13"
+LATER = "asm"  # what this program has besides
 TOO_SHORT = 0.01
 START = 0x08048000
 EXIT = bytes.fromhex("b801000000 bb00000000 cd80")
@@ -131,6 +132,8 @@ TABLES = [
     Table("build, functions", "function", BLOCKS_OF, many_functions, ["build", "N", "E", "T"], 1.0),
     Table("build, held loads", "block", [400, 1600, 6400], held_loads, ["build", "N", "E", "T"], 1.2),
     Table("build, backward chain", "block", [16384, 65536], backward_chain, ["build", "N", "E", "T"], 1.0),
+    Table("asm, instructions", "line", [699050, 2796202], lambda n: b"  nop\n" * n, ["asm", "N", "E"], 1.0),
+    Table("asm, jumps", "line", [599186, 2396744], lambda n: b"a:\n" + b"  jo a\n" * n, ["asm", "N", "E"], 1.0),
     Table("session, one emit", "function", BLOCKS_OF, many_functions, ["session", "E", "<once"], 1.0),
     Table("session, a second emit with one edge more", "function", [4000, 16000], many_functions, ["session", "E", "<again"], None),
 ]
@@ -145,7 +148,7 @@ def reference():
         return None
     target = os.path.join(tempfile.gettempdir(), f"binrec-reference-{os.getuid()}")
     done = subprocess.run(["cargo", "build", "--release", "--offline", "-q", "--target-dir", target], cwd=source)
-    return [os.path.join(target, "release", "oracle"), "--stage", STAGE] if done.returncode == 0 else None
+    return [os.path.join(target, "release", "oracle"), "--stage", STAGE, "--with", LATER] if done.returncode == 0 else None
 
 
 def call(program, words, folder):
