@@ -1,0 +1,13 @@
+mod Onward
+mod Seen
+mod Turns
+mod Steps
+mod Leaving
+mod Parts
+mod Branch
+mod AllEnds
+mod Search
+mod Tree
+mod Hits
+mod Dispatching
+mod InTurn
