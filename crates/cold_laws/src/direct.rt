@@ -1,11 +1,12 @@
 //! Direct ends of copies.
-ghost use Rattle.cold_laws.specs.Dispatcher.{ComparesBelow};
 ghost use Rattle.cold_laws.specs.Ends.{PartsLead, EndsByJmp, EndsByCall, EndsByJcc, EndsInPlace};
 
 use piece_laws::captures_joined;
 use sim_laws::stays_in_code;
 
-/// What leads on from a state in place, and a direct jump.
+/// The code at the end of a copy does what a direct jump, call or conditional jump does, and leads on to the block of a start, to a copy,
+/// or to the original where the target is neither: `parts` within 32 steps, each transfer within 128. `whole` says it of every transfer that is
+/// read, where the dispatcher leads on from a target in slot 15.
 pub fn direct_ends()
     ensures parts { PartsLead }
     ensures call { EndsByCall }
@@ -16,8 +17,3 @@ pub fn direct_ends()
     captures_joined();
     stays_in_code();
 }
-
-/// A comparison of eax, and a jump where it is below.
-pub fn compares_below()
-    ensures { ComparesBelow }
-{}

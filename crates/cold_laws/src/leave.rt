@@ -3,7 +3,8 @@ ghost use Rattle.cold_laws.specs.Ends.{EndsByCallMem, EndsByRet, EndsByJmpMem, E
 
 use sim_laws::stays_in_code;
 
-/// The code at the end of a copy does what a call through memory, and a return, do.
+/// The code at the end of a copy does what an indirect jump, an indirect call or a return does: the target is read before the address behind
+/// is pushed, and the dispatcher leads on from it, all within 128 steps.
 pub fn ends_in_place()
     ensures call { EndsByCallMem }
     ensures jmp { EndsByJmpMem }
