@@ -304,6 +304,62 @@ refused_traces() {
     row_keeping "$1: the second trace" 2 '' 'refused word 4 24 52\n' "$1" N X1 T1 twice
 }
 
+# OUT T SITE TARGET..: the trace T with these pairs too.
+with_pairs() {
+    python3 -c 'import struct, sys
+held, more = open(sys.argv[2], "rb").read(), [int(n, 16) for n in sys.argv[3:]]
+pairs = sorted(set(struct.iter_unpack("<II", held[44:])) | set(zip(more[::2], more[1::2])))
+open(sys.argv[1], "wb").write(held[:40] + struct.pack("<I", len(pairs)) + b"".join(struct.pack("<II", *p) for p in pairs))' "$@"
+}
+
+# Traces that say what is not so, of a program with one function: the file does what the original does.
+false_rows() {
+    local pair length
+    executable G1 'b801000000 e820000000 50 b804000000 bb01000000 89e1 ba04000000 cd80 b801000000 bb00000000 cd80 81c0a67ec641 7802 f7d0 c3'
+    row 'the program with one function' 0 'X\0201\0071\0276' 'exit 0 steps 15 undefined 0 edges 4\n' trace F0 G1
+    row 'build of it' 0 '' 'built 7 1310 8329\n' build FN G1 F0
+    for pair in '0 0804807e' '08048055 0804807e' '08048059 08048086' '08048088 00000010'; do
+        with_pairs F1 F0 $pair
+        row "with the false pair $pair" 0 '' 'built 7 1310 8329\n' build N G1 F1
+        if cmp -s N FN; then pass; else fail "the false pair $pair makes another file"; fi
+    done
+    with_pairs F1 F0 08048088 08048055
+    "${tool[@]}" show G1 F1 > got.out 2> got.err
+    if [ "$(cat got.err)" = 'shown 8' ] && grep -q '^  08048055 0100 add dword \[eax\], eax$' got.out; then pass; else fail "show of a block inside an instruction: $(cat got.err)"; fi
+    "${tool[@]}" build N G1 F1 2> got.err
+    row 'the file with a block inside an instruction' 0 'X\0201\0071\0276' 'exit 0 steps 186 undefined 0\n' run N
+    for ((length = 0; length < 76; length++)); do
+        head -c "$length" F0 > F1
+        row_keeping "a trace cut at $length" 2 '' "refused word 3 $([ "$length" -lt 8 ] && echo 21 || echo 23) $length\n" build N G1 F1
+    done
+    { head -c 40 F0; bytes "$(word 2000000)"; } > F1
+    row_keeping 'a count without its pairs' 2 '' 'refused word 3 23 44\n' build N G1 F1
+    executable many "$(for length in {1..40}; do printf '90%.0s' {1..63}; printf c3; done)"
+    python3 -c 'import struct, sys
+sites, starts = [0x08048054 + 64 * k + 63 for k in range(40)], range(0x08048054, 0x08048054 + 2560)
+sys.stdout.buffer.write(b"".join(struct.pack("<II", s, t) for s in sites for t in starts))' > targets
+    { trace_file head many 102400; cat head targets; } > F1
+    row_keeping 'targets of returns that would be too much code' 7 '' 'limit code 100663296\n' build N many F1
+    false_sessions
+}
+
+# Traces that share pairs, taken away in each order: after each removal the file is that of `build` for those left.
+false_sessions() {
+    local order
+    with_pairs S1 F0 08048084 08048088
+    with_pairs S2 F0 08048088 08048055 08048059 08048086
+    cp F0 S3
+    for order in '1 2 3' '1 3 2' '2 1 3' '2 3 1' '3 1 2' '3 2 1'; do
+        set -- $order
+        printf 'add S1\nadd S2\nadd S3\nremove %s\nemit A\nremove %s\nemit B\nremove %s\nemit C\n' "$@" | "${tool[@]}" session G1 > got.out 2> got.err
+        "${tool[@]}" build A1 G1 "S$2" "S$3" 2> /dev/null
+        "${tool[@]}" build B1 G1 "S$3" 2> /dev/null
+        "${tool[@]}" build C1 G1 2> /dev/null
+        if [ "$(cat got.err)" = 'lines 9' ] && cmp -s A A1 && cmp -s B B1 && cmp -s C C1; then pass; else fail "a session that removes $order: $(cat got.err)"; fi
+    done
+    rm -f A B C A1 B1 C1 S1 S2 S3
+}
+
 # The blocks of X1 that its trace has seen.
 listing='block 08048054
   08048054 b804000000 mov eax, 0x00000004
@@ -448,7 +504,7 @@ if expects run; then
 fi
 if expects trace; then
     trace_rows
-    if expects build; then traced_rows; small_rows; fi
+    if expects build; then traced_rows; small_rows; false_rows; fi
 fi
 if expects merge; then
     if command -v perl > /dev/null; then
