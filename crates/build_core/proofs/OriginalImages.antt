@@ -12,7 +12,7 @@ use Rattle.flow_graph.specs.GraphOf.{graph_of}
 use Rattle.sim_laws.specs.Preserves.{Preserves}
 use Rattle.sim_laws.specs.Covers.{Covers}
 use Rattle.code_layout.specs.declared.place.TheConstants.{MAX_CODE}
-use Rattle.code_layout.specs.Linked.{code_of}
+use Rattle.code_layout.specs.Linked.{itself, code_of}
 use Rattle.code_layout.specs.Image.{image}
 use Rattle.sim_runs.specs.Promised as promised
 use Rattle.sim_runs.specs.Law.{LawsPreserve}
@@ -21,6 +21,7 @@ use Rattle.image_laws.specs.Laid.{ImagesLaid}
 use Rattle.image_laws.specs.Law.{ImagesMade}
 use Rattle.image_laws.specs.Made.{FragmentsAreMade, EachIsMade}
 use Rattle.image_laws.specs.Serves.{HaveBytes}
+use Rattle.image_laws.specs.Stands.{CodeStands}
 use Rattle.image_laws.specs.Valid.{CodeIsBytes}
 use Rattle.build_core.specs.ImageLaw.{ImageLaw}
 use Rattle.build_core.proofs.FileBytes.{bytes_or_not, segments_of_bytes}
@@ -31,6 +32,7 @@ pub record Parts : Type 0 where
   pub made : FragmentsAreMade
   pub each : EachIsMade
   pub bytes : CodeIsBytes
+  pub stands : CodeStands
   pub preserve : LawsPreserve
 
 -- where segments are of bytes, the image has what the simulation asks for
@@ -39,8 +41,10 @@ pub image_laws : Parts → (exe : Exe) (edges : List Edge) → IsOriginal exe �
     → promised.Laws exe edges [] (image exe edges) (coded_of exe edges)
 image_laws parts exe edges original h set few room =
     let guest = original_is_guest exe original in
+    let c = coded_of exe edges in
+    let linked = parts.stands.built exe edges room in
     parts.meet exe edges original h room
-    (parts.made exe edges h room (parts.bytes exe edges guest h) (λ x start native. parts.each exe edges guest h set.order few x start))
+    (parts.made exe edges itself c h linked (parts.bytes exe edges itself c.code guest h linked.begins) (λ x start native. parts.each exe edges guest h set.order few x start))
 
 -- a file that is not of bytes has no runs to speak of
 no_runs : ImagesLaid → (file : List ℕ) (exe : Exe) (edges : List Edge) → IsOriginal exe → length (code_of exe edges) ≤ MAX_CODE

@@ -3,7 +3,8 @@ ghost use Rattle.build_core.specs.ImageLaw.{ImageLaw};
 ghost use Rattle.build_core.specs.ImageQuick.{ImageQuick};
 
 use image_laws::{
-    code_is_bytes, each_is_made, fragments_made, images_laid, images_meet, images_quick,
+    code_is_bytes, code_stands, each_is_made, fragments_made, images_laid, images_meet,
+    images_quick,
 };
 use sim_runs::laws_preserve;
 
@@ -18,6 +19,7 @@ pub fn image_law()
     fragments_made();
     each_is_made();
     code_is_bytes();
+    code_stands();
     images_quick();
     laws_preserve();
 }

@@ -1,6 +1,7 @@
 -- The code is of bytes.
 use Rattle.std.proofs.Common.{ℕ, zero, suc, ◌+◌, ◌<◌, Bool, true, false, List, [], ◌∷◌, ◌++◌, map, get_or, Option, Some, None, sym, subst, arith}
 use Rattle.std.proofs.lemmas.List.Elements.{All-take, recursion_from_All}
+use Rattle.br_word.specs.Memory.{Region}
 use Rattle.elf_read.specs.declared.exe.Exe.{Exe}
 use Rattle.elf_read.specs.Code.{code_at}
 use Rattle.ia_inst.specs.declared.inst.Inst.{Inst}
@@ -27,8 +28,9 @@ use Rattle.block_make.specs.Keys.{live_at, has}
 use Rattle.block_make.specs.FragmentItems.{lines_items, moves_items, tail_items, regain_items, part_items, compare_items, tails_items, way_stub_items, own_bytes, dest_of, exit_items, items_of}
 use Rattle.code_layout.specs.declared.place.TheConstants.{CODE_START}
 use Rattle.code_layout.specs.Keys.{keys_of}
-use Rattle.code_layout.specs.Linked.{entry_items, bytes_at, bytes_from, first_at, fragments_of, has_key, code_of}
-use Rattle.image_laws.specs.Coded.{start_items, entry_of, goes_of}
+use Rattle.code_layout.specs.Linked.{entry_items, bytes_at, bytes_from, first_at, fragments_of, has_key, code_of_keys}
+use Rattle.image_laws.specs.Coded.{start_items, entry_of, goes_with}
+use Rattle.image_laws.specs.Linked.{BeginsLinked}
 use Rattle.image_laws.specs.Serves.{HaveBytes}
 use Rattle.image_laws.proofs.Places.{fragment_at}
 use Rattle.image_laws.proofs.Standing.{whole, same_fragments}
@@ -128,9 +130,18 @@ items_bytes dest (item.Label l ∷ is) at h k = items_bytes dest is (at + 0) h k
 
 -- ---- the code
 
-module _ (exe : Exe) (edges : List Edge) (bytes : HaveBytes exe) (valid : (x : ℕ) → AreValid (start_items exe edges x)) where
+each_below : (bs : List ℕ) → Bytes bs → (i : ℕ) → get_or bs i 0 < 256
+each_below [] h i = omega arith
+each_below (b ∷ bs) h zero = h.0
+each_below (b ∷ bs) h (suc i) = each_below bs h.1 i
+
+all_below : (bs : List ℕ) → ((i : ℕ) → get_or bs i 0 < 256) → Bytes bs
+all_below [] h = tt
+all_below (b ∷ bs) h = (h 0, all_below bs (λ i. h (suc i)))
+
+module _ (exe : Exe) (edges : List Edge) (out : ℕ → ℕ) (bytes : HaveBytes exe) (valid : (x : ℕ) → AreValid (start_items exe edges x)) where
   abbrev goes : Dest → ℕ
-  goes = goes_of exe edges
+  goes = goes_with out exe edges
 
   parts_bytes : (xs : List ℕ) (at : ℕ) → Bytes (bytes_from goes at (map (fragment_at (start_items exe edges)) xs))
   parts_bytes [] at = tt
@@ -138,18 +149,15 @@ module _ (exe : Exe) (edges : List Edge) (bytes : HaveBytes exe) (valid : (x : �
       let is = start_items exe edges x in
       join (bytes_at goes at is) (bytes_from goes (at + size_of_items is) (map (fragment_at (start_items exe edges)) xs)) (items_bytes (with_labels goes at is) is at (valid x) (own_items exe _ bytes)) (parts_bytes xs (at + size_of_items is))
 
-  all_bytes : AreValid (entry_of exe edges) → Bytes (code_of exe edges)
-  all_bytes entry =
+  linked_bytes : AreValid (entry_of exe edges) → Bytes (code_of_keys out exe (keys_of exe edges))
+  linked_bytes entry =
       let is = entry_of exe edges in
-      subst Bytes (sym (whole exe edges))
+      subst Bytes (sym (whole out exe edges))
       (join (bytes_at goes CODE_START is) (bytes_from goes (first_at is) (fragments_of exe (keys_of exe edges)))
       (items_bytes (with_labels goes CODE_START is) is CODE_START entry (own_entry exe.entry (has_key (keys_of exe edges) exe.entry)))
       (subst (λ fs. Bytes (bytes_from goes (first_at is) fs)) (sym (same_fragments exe edges)) (parts_bytes (starts_of exe (counting exe edges)) (first_at is))))
 
-  each_below : (bs : List ℕ) → Bytes bs → (i : ℕ) → get_or bs i 0 < 256
-  each_below [] h i = omega arith
-  each_below (b ∷ bs) h zero = h.0
-  each_below (b ∷ bs) h (suc i) = each_below bs h.1 i
-
-  pub code_small : AreValid (entry_of exe edges) → (i : ℕ) → get_or (code_of exe edges) i 0 < 256
-  code_small entry = each_below (code_of exe edges) (all_bytes entry)
+  pub code_small : AreValid (entry_of exe edges) → (code : Region) → BeginsLinked exe edges out code → (i : ℕ) → get_or code.bytes i 0 < 256
+  code_small entry code has =
+      let front = code_of_keys out exe (keys_of exe edges) in
+      each_below code.bytes (subst Bytes (sym has.bytes) (join front has.behind (linked_bytes entry) (all_below has.behind has.small)))

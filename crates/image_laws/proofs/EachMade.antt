@@ -21,7 +21,7 @@ pub items_valid : EachIsLifted → ReadyKeeps → FragmentsValid → ItemsValid
 items_valid lifted keeps fragments exe edges x guest h = fragments.valid exe (key_at exe edges x) (ready_lifted lifted keeps exe x h) (exits_small exe guest edges x)
 
 pub code_is_bytes : ItemsValid → CodeStands → CodeIsBytes
-code_is_bytes valid stands exe edges guest h = bytes.code_small exe edges h (λ x. valid exe edges x guest h) (stands.entry exe edges).valid
+code_is_bytes valid stands exe edges out code guest h has = bytes.code_small exe edges out h (λ x. valid exe edges x guest h) (stands.entry exe edges out code has).valid code has
 
 pub each_is_made : ItemsValid → FragmentsValid → KeysAreKeys → EachIsMade
 each_is_made valid fragments keys exe edges guest h up few x start =

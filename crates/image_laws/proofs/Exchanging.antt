@@ -1,5 +1,5 @@
 -- The exchange of state round native instructions and at the entry.
-use Rattle.std.proofs.Common.{◌≡◌, ℕ, zero, suc, ◌+◌, ◌*◌, ◌^◌, ◌<◌, ◌≤◌, Bool, true, false, ◌&&◌, if◌then◌else◌, List, [], ◌∷◌, ◌++◌, length, take, drop, map, get_or, Some, None, refl, sym, ap, ◌∙◌, subst, arith, ⊎_elim, length-append}
+use Rattle.std.proofs.Common.{◌≡◌, ℕ, zero, suc, ◌+◌, ◌*◌, ◌^◌, ◌<◌, ◌≤◌, Bool, true, false, ◌&&◌, if◌then◌else◌, List, [], ◌∷◌, length, take, drop, map, get_or, Some, None, refl, sym, ap, ◌∙◌, subst, arith, ⊎_elim}
 use Rattle.std.specs.Prelude.{option_to_list, ◌==◌, ◌||◌, ◌≢◌}
 use Rattle.std.specs.Bool.{then_some}
 use Rattle.std.proofs.lemmas.Bool.Decides.{eqb_tells}
@@ -12,7 +12,7 @@ use Rattle.ia_inst.specs.Meaning.{wrap}
 use Rattle.ia_encode.specs.declared.item.Dest.{Dest}
 use Rattle.ia_encode.specs.declared.item.Dest.TheVariants as dests
 use Rattle.ia_encode.specs.declared.item.Item.{Item}
-use Rattle.ia_encode.specs.Items.{size_of_items, bytes_of_items, with_labels, Stands, ItemsStand}
+use Rattle.ia_encode.specs.Items.{size_of_items, with_labels, Stands, ItemsStand}
 use Rattle.run_model.specs.Edges.{Edge}
 use Rattle.run_model.specs.Run.{observed}
 use Rattle.block_cut.specs.declared.ends.End.TheVariants.{Island}
@@ -32,8 +32,8 @@ use Rattle.code_laws.specs.Seen.{Cells, word, IsCode, Sees}
 use Rattle.code_laws.specs.Laws.{JumpsLead, own_start}
 use Rattle.code_laws.specs.Valid.{CodeValid}
 use Rattle.code_layout.specs.declared.place.TheConstants.{CODE_START, MAX_CODE}
-use Rattle.code_layout.specs.Keys.{live_of, keys_of}
-use Rattle.code_layout.specs.Linked.{Fragment, entry_items, address_in, bytes_at, bytes_from, first_at, fragments_of, code_of}
+use Rattle.code_layout.specs.Keys.{live_of}
+use Rattle.code_layout.specs.Linked.{entry_items, itself, code_of}
 use Rattle.sim_runs.specs.Relation.{Plan, at_home}
 use Rattle.sim_runs.specs.Laws.{Leads, Opens, Captured, past}
 use Rattle.sim_runs.specs.Image.{Capturable}
@@ -41,10 +41,9 @@ use Rattle.sim_runs.specs.Pieces.{IsLinked}
 use Rattle.sim_runs.specs.Recovered.{is_island_end, is_start_of, knows_of, plan_of}
 use Rattle.sim_runs.specs.Promised.{Exchanges}
 use Rattle.piece_laws.specs.Exchange.{HomesMeet, OpensJoined, ClosesJoined, EntersJoined}
-use Rattle.image_laws.specs.Coded.{key_at, entry_of, address_of, goes_of, coded_of}
+use Rattle.image_laws.specs.Coded.{key_at, entry_of, address_of, goes_with, coded_of}
 use Rattle.image_laws.specs.Exchanged.{StatesExchanged}
-use Rattle.image_laws.proofs.Places.{JumpLengths, bytes_long}
-use Rattle.image_laws.proofs.Standing.{same_bytes, whole, known, stands, entry_stands}
+use Rattle.image_laws.proofs.Standing.{same_bytes, begins_built, known, low, stands, entry_stands}
 use Rattle.image_laws.proofs.NativeCode.{Decodes, is_native, next_of as next_dest, own_of, native_items, native_inside, own_long}
 use Rattle.image_laws.proofs.Leading.{leads_within}
 
@@ -104,29 +103,6 @@ module _ (plan : Plan) (outer : List Region) (t : State) (c : Capturable plan ou
       small (Reg r) l = c.small r l
       small (Slot k) l = low_word (drop (4 * k) c.own) (low_drop (4 * k) c.own c.ready.bytes)
 
--- ---- where addresses lie
-
-address_low : (goes : Dest → ℕ) (laws : JumpLengths) (fs : List Fragment) (at y : ℕ) → address_in at fs y ≤ at + length (bytes_from goes at fs)
-address_low goes laws [] at y = omega arith
-address_low goes laws (f ∷ fs) at y = decide (f.start == y) (address_low goes laws fs (at + size_of_items f.items) y)
-  where
-    decide : (b : Bool) → address_in (at + size_of_items f.items) fs y ≤ at + size_of_items f.items + length (bytes_from goes (at + size_of_items f.items) fs) → (if b then at else address_in (at + size_of_items f.items) fs y) ≤ at + length (bytes_at goes at f.items ++ bytes_from goes (at + size_of_items f.items) fs)
-    decide true q = omega arith
-    decide false q =
-        let long = bytes_long laws (with_labels goes at f.items) f.items at in
-        let both = length-append (bytes_at goes at f.items) (bytes_from goes (at + size_of_items f.items) fs) in
-        omega (arith, q, long, both)
-
-pub low : (laws : JumpLengths) (exe : Exe) (edges : List Edge) (y : ℕ) → address_of exe edges y ≤ CODE_START + length (code_of exe edges)
-low laws exe edges y =
-    let entry = entry_of exe edges in
-    let first = bytes_at (goes_of exe edges) CODE_START entry in
-    let rest = bytes_from (goes_of exe edges) (first_at entry) (fragments_of exe (keys_of exe edges)) in
-    let q = address_low (goes_of exe edges) laws (fragments_of exe (keys_of exe edges)) (first_at entry) y in
-    let a = ap length (whole exe edges) ∙ length-append first rest in
-    let b = bytes_long laws (with_labels (goes_of exe edges) CODE_START entry) entry CODE_START in
-    omega (arith, q, a, b)
-
 -- ---- the block behind a native instruction
 
 known_behind : (exe : Exe) (edges : List Edge) (x y : ℕ) → is_island_end (block_of exe x).end ≡ true → knows_of exe edges x y ≡ true → y ≡ next_of exe x
@@ -182,11 +158,11 @@ module _ (laws : Exchanging) (exe : Exe) (original : IsOriginal exe) (edges : Li
   meet : HomesMeet register_homes plan
   meet = let q = ap length (same_bytes exe edges) in record { are = laws.valid.homes; home = λ v l. refl; here = record { below = omega (arith, q, room); runs = refl } }
 
-  linked_stand : (at : ℕ) (is : List Item) → IsLinked code (goes_of exe edges) at is → Stands (with_labels (goes_of exe edges) at is) code at is (at + size_of_items is)
-  linked_stand at is k = laws.stand code (goes_of exe edges) at is k.front k.behind k.bytes k.place k.valid k.distinct
+  linked_stand : (at : ℕ) (is : List Item) → IsLinked code (goes_with itself exe edges) at is → Stands (with_labels (goes_with itself exe edges) at is) code at is (at + size_of_items is)
+  linked_stand at is k = laws.stand code (goes_with itself exe edges) at is k.front k.behind k.bytes k.place k.valid k.distinct
 
   address_small : (y : ℕ) → address_of exe edges y < 2 ^ 32
-  address_small y = let bound = low laws.decodes.lengths exe edges y in omega (arith, bound, room)
+  address_small y = let bound = low laws.decodes.lengths exe edges itself code (begins_built exe edges) y in let long = ap length (same_bytes exe edges) in omega (arith, bound, long, room)
 
   -- ---- a native instruction
 
@@ -198,15 +174,15 @@ module _ (laws : Exchanging) (exe : Exe) (original : IsOriginal exe) (edges : Li
     items = island_items register_homes (own_of exe x) 0 (next_dest exe edges x)
 
     abbrev dest : Dest → ℕ
-    dest = with_labels (goes_of exe edges) at items
+    dest = with_labels (goes_with itself exe edges) at items
 
     native_stands : Stands dest code at items (at + size_of_items items)
     native_stands =
         let e = native_items exe edges x native in
         let v = laws.valid.island register_homes laws.valid.homes (own_of exe x) 0 (next_dest exe edges x) in
         let d = laws.valid.labels register_homes (own_of exe x) 0 (next_dest exe edges x) in
-        let k = stands laws.decodes.lengths exe edges x start (subst Rattle.ia_encode.specs.Items.AreValid (sym e) v) (subst Rattle.ia_encode.specs.Items.AreDistinct (sym e) d) in
-        linked_stand at items (subst (IsLinked code (goes_of exe edges) at) e k)
+        let k = stands laws.decodes.lengths exe edges itself code (begins_built exe edges) x start (subst Rattle.ia_encode.specs.Items.AreValid (sym e) v) (subst Rattle.ia_encode.specs.Items.AreDistinct (sym e) d) in
+        linked_stand at items (subst (IsLinked code (goes_with itself exe edges) at) e k)
 
     opens : (t : State) (a : Cells) (cs : List ℕ) → Sees code t a → t.eip ≡ at → AreBits (at_home plan a) → Leads (Opens plan x a) 31 t cs
     opens t a cs s e bits = laws.opening register_homes plan dest meet x 0 (at + size_of_items items) (own_of exe x) (next_dest exe edges x) t a cs native_stands refl s e bits
@@ -231,19 +207,19 @@ module _ (laws : Exchanging) (exe : Exe) (original : IsOriginal exe) (edges : Li
   entry_is : (b : Bool) → is_start_of exe edges exe.entry ≡ b → entry_of exe edges ≡ entry_items exe.entry b
   entry_is b h = ap (entry_items exe.entry) (known exe edges exe.entry ∙ h)
 
-  entry_there : (b : Bool) → is_start_of exe edges exe.entry ≡ b → Stands (with_labels (goes_of exe edges) CODE_START (entry_items exe.entry b)) code CODE_START (entry_items exe.entry b) (CODE_START + size_of_items (entry_items exe.entry b))
-  entry_there b h = linked_stand CODE_START (entry_items exe.entry b) (subst (IsLinked code (goes_of exe edges) CODE_START) (entry_is b h) (entry_stands laws.valid exe edges))
+  entry_there : (b : Bool) → is_start_of exe edges exe.entry ≡ b → Stands (with_labels (goes_with itself exe edges) CODE_START (entry_items exe.entry b)) code CODE_START (entry_items exe.entry b) (CODE_START + size_of_items (entry_items exe.entry b))
+  entry_there b h = linked_stand CODE_START (entry_items exe.entry b) (subst (IsLinked code (goes_with itself exe edges) CODE_START) (entry_is b h) (entry_stands laws.valid exe edges itself code (begins_built exe edges)))
 
   enters : (t : State) (outer : List Region) (cs : List ℕ) → is_start_of exe edges exe.entry ≡ true → Capturable plan outer t → t.eip ≡ CODE_START → Leads (Captured plan exe.entry outer t) 17 t cs
   enters t outer cs h c e =
       let is = entry_items exe.entry true in
-      let dest = with_labels (goes_of exe edges) CODE_START is in
+      let dest = with_labels (goes_with itself exe edges) CODE_START is in
       let to = CODE_START + size_of_items is in
       laws.entering register_homes plan dest meet to exe.entry (dests.Block exe.entry) t outer cs (subst (λ y. Stands dest code y is to) (sym e) (entry_there true h)) refl (address_small exe.entry) c
 
   passes : (t : State) (outer : List Region) (cs : List ℕ) → is_start_of exe edges exe.entry ≡ false → Capturable plan outer t → t.eip ≡ CODE_START → Leads (λ u. u ≡ record t { eip = exe.entry }) 17 t cs
   passes t outer cs h c e =
-      let dest = with_labels (goes_of exe edges) CODE_START (entry_items exe.entry false) in
+      let dest = with_labels (goes_with itself exe edges) CODE_START (entry_items exe.entry false) in
       let stand = entry_there false h in
       let l = (laws.jumps code dest meet.here).always t (first t c.own outer) (dests.Original exe.entry) cs (sees plan outer t c) entry_small (subst (λ y. Rattle.ia_encode.specs.Items.Reads code y (Rattle.ia_encode.specs.Items.jump_inst None (Rattle.ia_encode.specs.Items.distance (y + 5) (dest (dests.Original exe.entry)))) 5) (sym e) stand.0) in
       leads_within (observed t) (λ u. u ≡ record t { eip = exe.entry }) (λ u. u ≡ record t { eip = exe.entry }) 1 17 t cs refl (λ u k. ap observed k) (λ u k. k) (omega arith) (omega arith) l

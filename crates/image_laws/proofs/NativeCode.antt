@@ -32,11 +32,12 @@ use Rattle.block_make.specs.Choices.{Choice, ready}
 use Rattle.block_make.specs.Keys.{live_at}
 use Rattle.block_make.specs.FragmentItems.{lines_items, exit_items, own_bytes, dest_of, items_of}
 use Rattle.code_layout.specs.declared.place.TheConstants.{CODE_START}
-use Rattle.code_layout.specs.Linked.{code_of}
+use Rattle.code_layout.specs.Linked.{itself, code_of}
 use Rattle.sim_runs.specs.Recovered.{is_island_end, first_inst, is_start_of}
-use Rattle.image_laws.specs.Coded.{key_at, start_items, address_of, goes_of, coded_of}
+use Rattle.image_laws.specs.Coded.{key_at, start_items, address_of, goes_with, coded_of}
+use Rattle.image_laws.specs.Linked.{BeginsLinked}
 use Rattle.image_laws.proofs.Places.{JumpLengths, bytes_long}
-use Rattle.image_laws.proofs.Standing.{same_bytes, entry_bytes, place, own, parts, begins, inside}
+use Rattle.image_laws.proofs.Standing.{same_bytes, begins_built, own, front, behind, parts, begins, inside}
 use Rattle.image_laws.proofs.LiftedBlocks.{found_code}
 
 -- ---- the one instruction of a native block
@@ -115,6 +116,12 @@ pub record Decodes : Type 0 where
   pub long : (bs : List ℕ) (i : Inst) (n : ℕ) → decode_of bs ≡ Some (i, n) → (1 ≤ n) × (n ≤ 15) × (n ≤ length bs)
 
 module _ (laws : Decodes) (exe : Exe) (edges : List Edge) (x : ℕ) (start : is_start_of exe edges x ≡ true) (native : is_island_end (block_of exe x).end ≡ true) where
+  abbrev code : Region
+  code = (coded_of exe edges).code
+
+  abbrev has : BeginsLinked exe edges itself code
+  has = begins_built exe edges
+
   abbrev n : ℕ
   n = size_of (block_of exe x).insts
 
@@ -153,16 +160,17 @@ module _ (laws : Decodes) (exe : Exe) (edges : List Edge) (x : ℕ) (start : is_
   -- it ends in the code
   pub native_inside : (coded_of exe edges).native x + n + 5 ≤ CODE_START + length (code_of exe edges)
   native_inside =
-      let a = inside laws.lengths exe edges x start in
+      let a = inside laws.lengths exe edges itself code has x start in
       let b = sizes in
       let c = ends_with_jump in
-      omega (arith, a, b, c)
+      let d = ap length (same_bytes exe edges) in
+      omega (arith, a, b, c, d)
 
   abbrev at : ℕ
   at = address_of exe edges x
 
   abbrev dest : Dest → ℕ
-  dest = with_labels (goes_of exe edges) at (start_items exe edges x)
+  dest = with_labels (goes_with itself exe edges) at (start_items exe edges x)
 
   abbrev way_in : List ℕ
   way_in = bytes_of_items dest at opening
@@ -170,36 +178,36 @@ module _ (laws : Decodes) (exe : Exe) (edges : List Edge) (x : ℕ) (start : is_
   abbrev way_out : List ℕ
   way_out = bytes_of_items dest (at + size_of_items opening + size_of_items (map Byte (own_of exe x))) closing
 
-  own_parts : own laws.lengths exe edges x start ≡ way_in ++ (own_of exe x ++ way_out)
+  own_parts : own laws.lengths exe edges itself code has x start ≡ way_in ++ (own_of exe x ++ way_out)
   own_parts =
       ap (bytes_of_items dest at) (native_items exe edges x native)
       ∙ bytes_parts dest opening (map Byte (own_of exe x) ++ closing) at
       ∙ ap (λ bs. way_in ++ bs) (bytes_parts dest (map Byte (own_of exe x)) closing (at + size_of_items opening) ∙ ap (λ bs. bs ++ way_out) (put_bytes dest (own_of exe x) (at + size_of_items opening)))
 
-  abbrev front : List ℕ
-  front = entry_bytes laws.lengths exe edges x start ++ (place laws.lengths exe edges x start).front
+  abbrev before : List ℕ
+  before = front laws.lengths exe edges itself code has x start
 
-  abbrev behind : List ℕ
-  behind = (place laws.lengths exe edges x start).behind
+  abbrev after : List ℕ
+  after = behind laws.lengths exe edges itself code has x start
 
-  code_parts : (coded_of exe edges).code.bytes ≡ (front ++ way_in) ++ (own_of exe x ++ (way_out ++ behind))
+  code_parts : (coded_of exe edges).code.bytes ≡ (before ++ way_in) ++ (own_of exe x ++ (way_out ++ after))
   code_parts =
-      same_bytes exe edges ∙ parts laws.lengths exe edges x start
-      ∙ ap (λ bs. front ++ (bs ++ behind)) own_parts
-      ∙ ap (λ bs. front ++ bs) (append_assoc way_in (own_of exe x ++ way_out) behind ∙ ap (λ bs. way_in ++ bs) (append_assoc (own_of exe x) way_out behind))
-      ∙ sym (append_assoc front way_in (own_of exe x ++ (way_out ++ behind)))
+      parts laws.lengths exe edges itself code has x start
+      ∙ ap (λ bs. before ++ (bs ++ after)) own_parts
+      ∙ ap (λ bs. before ++ bs) (append_assoc way_in (own_of exe x ++ way_out) after ∙ ap (λ bs. way_in ++ bs) (append_assoc (own_of exe x) way_out after))
+      ∙ sym (append_assoc before way_in (own_of exe x ++ (way_out ++ after)))
 
-  stands_at : (coded_of exe edges).native x ≡ CODE_START + length (front ++ way_in)
+  stands_at : (coded_of exe edges).native x ≡ CODE_START + length (before ++ way_in)
   stands_at =
-      let a = begins laws.lengths exe edges x start in
+      let a = begins laws.lengths exe edges itself code has x start in
       let b = bytes_long laws.lengths dest opening at in
-      let c = length-append front way_in in
+      let c = length-append before way_in in
       omega (arith, a, b, c)
 
-  rest_here : drop ((coded_of exe edges).native x - CODE_START) (coded_of exe edges).code.bytes ≡ own_of exe x ++ (way_out ++ behind)
+  rest_here : drop ((coded_of exe edges).native x - CODE_START) (coded_of exe edges).code.bytes ≡ own_of exe x ++ (way_out ++ after)
   rest_here =
-      let z : (coded_of exe edges).native x - CODE_START ≡ length (front ++ way_in) = let s = stands_at in omega (arith, s) in
-      ap (λ k. drop k (coded_of exe edges).code.bytes) z ∙ ap (λ bs. drop (length (front ++ way_in)) bs) code_parts ∙ drop-append_seam (front ++ way_in) (own_of exe x ++ (way_out ++ behind))
+      let z : (coded_of exe edges).native x - CODE_START ≡ length (before ++ way_in) = let s = stands_at in omega (arith, s) in
+      ap (λ k. drop k (coded_of exe edges).code.bytes) z ∙ ap (λ bs. drop (length (before ++ way_in)) bs) code_parts ∙ drop-append_seam (before ++ way_in) (own_of exe x ++ (way_out ++ after))
 
   covered : (nat_le CODE_START ((coded_of exe edges).native x) && nat_le ((coded_of exe edges).native x + 1) (CODE_START + length (coded_of exe edges).code.bytes)) ≡ true
   covered =
@@ -215,4 +223,4 @@ module _ (laws : Decodes) (exe : Exe) (edges : List Edge) (x : ℕ) (start : is_
   copied rs =
       ap (λ t. found_in (if t && true then Some (drop ((coded_of exe edges).native x - CODE_START) (coded_of exe edges).code.bytes) else bytes_from_address Runs ((coded_of exe edges).native x) 1 rs)) covered
       ∙ ap (λ bs. found_from (decode_of bs)) rest_here
-      ∙ ap found_from (laws.decides (code_at x exe.segments) (way_out ++ behind) inst n spelled)
+      ∙ ap found_from (laws.decides (code_at x exe.segments) (way_out ++ after) inst n spelled)

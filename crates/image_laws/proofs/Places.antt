@@ -1,5 +1,5 @@
 -- Fragments one behind another: where each stands.
-use Rattle.std.proofs.Common.{◌≡◌, ℕ, ◌+◌, true, false, if◌then◌else◌, List, [], ◌∷◌, ◌++◌, length, map, Option, Some, None, refl, sym, ap, ◌∙◌, subst, arith, length-append, append_assoc, ⊎_elim}
+use Rattle.std.proofs.Common.{◌≡◌, ℕ, ◌+◌, ◌≤◌, true, false, if◌then◌else◌, List, [], ◌∷◌, ◌++◌, length, map, Option, Some, None, refl, sym, ap, ◌∙◌, subst, arith, length-append, append_assoc, ⊎_elim}
 use Rattle.std.specs.Prelude.{◌==◌, Bool, ◌||◌, ◌≢◌}
 use Rattle.std.proofs.lemmas.Bool.Decides.{eqb_tells}
 use Rattle.ia_inst.specs.declared.inst.Inst.TheVariants.{Jcc, Jmp}
@@ -74,3 +74,15 @@ module _ (laws : JumpLengths) where
             (λ (q : ((x == y) ≡ true) × (x ≡ y)). absurd (n (sym q.1)))
             (λ (q : ((x == y) ≡ false) × (x ≢ y)). sym (ap (λ c. c || b) q.0) ∙ h)
             (eqb_tells x y)
+
+  -- no fragment begins behind them all
+  pub address_low : (goes : Dest → ℕ) (fs : List Fragment) (at y : ℕ) → address_in at fs y ≤ at + length (bytes_from goes at fs)
+  address_low goes [] at y = omega arith
+  address_low goes (f ∷ fs) at y = decide (f.start == y) (address_low goes fs (at + size_of_items f.items) y)
+    where
+      decide : (b : Bool) → address_in (at + size_of_items f.items) fs y ≤ at + size_of_items f.items + length (bytes_from goes (at + size_of_items f.items) fs) → (if b then at else address_in (at + size_of_items f.items) fs y) ≤ at + length (bytes_at goes at f.items ++ bytes_from goes (at + size_of_items f.items) fs)
+      decide true q = omega arith
+      decide false q =
+          let long = bytes_long (with_labels goes at f.items) f.items at in
+          let both = length-append (bytes_at goes at f.items) (bytes_from goes (at + size_of_items f.items) fs) in
+          omega (arith, q, long, both)

@@ -13,6 +13,7 @@ use Rattle.ia_encode.specs.declared.item.Item.{Item}
 use Rattle.ia_encode.specs.declared.item.Item.TheVariants as item
 use Rattle.run_model.specs.Edges.{Edge}
 use Rattle.block_cut.specs.CountedEdges.{counting}
+use Rattle.block_cut.specs.Blocks.{block_of}
 use Rattle.block_cut.specs.Transfers.{is_among}
 use Rattle.flow_graph.specs.Graph.{Node, known_of, starts_in}
 use Rattle.flow_graph.specs.GraphOf.{starts_of, graph_of}
@@ -27,21 +28,21 @@ use Rattle.block_make.specs.Keys.{has}
 use Rattle.block_make.specs.FragmentItems.{lines_items, moves_items, tail_items, regain_items, stub_items}
 use Rattle.block_make.specs.CodesShort.{PartsShort}
 use Rattle.code_layout.specs.declared.place.TheConstants.{MAX_CODE}
-use Rattle.code_layout.specs.Linked.{code_of}
+use Rattle.code_layout.specs.Linked.{itself, code_of}
 use Rattle.code_layout.specs.Image.{image}
 use Rattle.sim_runs.specs.Passes.{count_of}
-use Rattle.sim_runs.specs.Pieces.{Pieces, part_of, ExitWithin, PathWithin, FragmentsRun}
+use Rattle.sim_runs.specs.Pieces.{part_of, ExitWithin, FragmentsRun}
 use Rattle.sim_runs.specs.Promised.{FragmentRuns}
-use Rattle.sim_runs.specs.Recovered.{is_start_of, knows_of}
+use Rattle.sim_runs.specs.Recovered.{is_island_end, is_start_of, knows_of}
 use Rattle.piece_laws.specs.Pieces.{set_of, ask_of, aim_of, way_of, pieces_of}
 use Rattle.image_laws.specs.Coded.{key_at, coded_of, coding_at}
 use Rattle.image_laws.specs.Exchanged.{OPENING_STEPS, CLOSING_STEPS, ENTRY_STEPS}
 use Rattle.image_laws.specs.Serves.{HaveBytes}
-use Rattle.image_laws.specs.Made.{EachIsMade}
+use Rattle.image_laws.specs.Made.{FragmentsAreMade, EachIsMade}
 use Rattle.image_laws.specs.Valid.{CodeIsBytes}
-use Rattle.image_laws.specs.Quick.{KnowAtMost, fragment_steps, FragmentsQuick, IsQuick, ImagesQuick}
+use Rattle.image_laws.specs.Quick.{KnowAtMost, fragment_steps, FragmentsQuick, FragmentsLinkedRun, IsQuick, ImagesQuick}
 use Rattle.image_laws.proofs.Meeting.{Parts}
-use Rattle.image_laws.proofs.Making.{Makes, fragments_made, same_pieces}
+use Rattle.image_laws.proofs.Making.{Makes, with_paths}
 use Rattle.image_laws.proofs.NoCopies.{no_copies, none_further}
 
 -- ---- pieces
@@ -135,26 +136,34 @@ module _ (exe : Exe) (edges : List Edge) (exits x : ℕ) where
 -- ---- fragments
 
 pub fragments_quick : Makes → PartsShort → FragmentsQuick
-fragments_quick laws parts exe edges exits bytes room small each know = (
-  fragments_made laws exe edges bytes room small each,
-  λ x start native.
-      let c = choice_of exe (key_at exe edges x) in
-      let es = (key_at exe edges x).exits in
-      let ys = known_of exe (counting exe edges) x in
-      let serves = laws.serve exe edges x bytes start native in
-      let few = serves.few in
-      let outs = parts.outs exe x in
-      let count : length c.block.outs ≤ 14 = omega (arith, outs) in
-      let k = known_few exe edges exits x know start in
-      let both = parts.lines c c.split.body c.split.sunk serves.apart in
-      let body = count_most (lines_items c c.split.body) in
-      let path : PathWithin exe edges (coding_at exe edges x) (pieces_of c es) x (fragment_steps exits) = record {
-        exit = sunk parts c es count + 200 + 2 * length ys;
-        ways = ways parts c es count (knows_of exe edges x) ys c.block.exit;
-        fits = omega (arith, body, both, few, k);
-      } in
-      subst (λ (p : Pieces). PathWithin exe edges (coding_at exe edges x) p x (fragment_steps exits)) (sym (same_pieces laws exe edges bytes room small each x)) path,
-)
+fragments_quick laws parts exe edges out c exits bytes linked small each know =
+    with_paths laws exe edges out c bytes linked small each (fragment_steps exits) (λ x start native.
+    let choice = choice_of exe (key_at exe edges x) in
+    let es = (key_at exe edges x).exits in
+    let ys = known_of exe (counting exe edges) x in
+    let serves = laws.serve exe edges c bytes linked.registers x start native in
+    let few = serves.few in
+    let outs = parts.outs exe x in
+    let count : length choice.block.outs ≤ 14 = omega (arith, outs) in
+    let k = known_few exe edges exits x know start in
+    let both = parts.lines choice choice.split.body choice.split.sunk serves.apart in
+    let body = count_most (lines_items choice choice.split.body) in
+    record {
+      exit = sunk parts choice es count + 200 + 2 * length ys;
+      ways = ways parts choice es count (knows_of exe edges x) ys choice.block.exit;
+      fits = omega (arith, body, both, few, k);
+    })
+
+pub linked_run : FragmentsAreMade → FragmentsQuick → EachIsMade → CodeIsBytes → FragmentsRun → FragmentsLinkedRun
+linked_run made quick each of_bytes run exe edges out c guest bytes order few linked =
+    let small = of_bytes exe edges out c.code guest bytes linked.begins in
+    let is_made = λ (x : ℕ) (start : is_start_of exe edges x ≡ true) (native : is_island_end (block_of exe x).end ≡ false). each exe edges guest bytes order few x start in
+    record {
+      by_length = run.by_length exe edges c (coding_at exe edges) (made exe edges out c bytes linked small is_made);
+      by_exits = λ exits know.
+          let q = quick exe edges out c exits bytes linked small is_made know in
+          run.by_paths exe edges c (coding_at exe edges) q.0 (fragment_steps exits) q.1;
+    }
 
 -- ---- the file
 
@@ -170,7 +179,7 @@ quick_at parts exe edges exits plain high original bytes room runs enough some b
     closing = CLOSING_STEPS;
     top = ENTRY_STEPS;
     coding = coding_at exe edges;
-    serves = λ x start native. parts.serve exe edges x bytes start native;
+    serves = parts.serve exe edges (coded_of exe edges) bytes (parts.stands.built exe edges room).registers;
     fragment = runs;
     exchange = parts.exchanged exe edges original room;
     copies = no_copies exe edges;
@@ -188,25 +197,19 @@ quick_at parts exe edges exits plain high original bytes room runs enough some b
 
 pub record Quickly : Type 0 where
   pub parts : Parts
-  pub quick : FragmentsQuick
-  pub each : EachIsMade
-  pub bytes : CodeIsBytes
-  pub run : FragmentsRun
+  pub run : FragmentsLinkedRun
 
 -- a short file is quick as it is
 pub images_quick : Quickly → ImagesQuick
 images_quick laws exe edges exits original bytes order few room know =
-    let guest = original_is_guest exe original in
-    let q = laws.quick exe edges exits bytes room (laws.bytes exe edges guest bytes) (λ x start native. laws.each exe edges guest bytes order few x start) know in
-    let c = coded_of exe edges in
-    let code = coding_at exe edges in
+    let r = laws.run exe edges itself (coded_of exe edges) (original_is_guest exe original) bytes order few (laws.parts.stands.built exe edges room) in
     let long = laws.parts.hold exe edges in
     let size = ap length (laws.parts.stands.bytes exe edges) in
     ⊎_elim
     (λ (l : length (image exe edges) < fragment_steps exits).
-    quick_at laws.parts exe edges exits (length c.code.bytes) (length (image exe edges)) original bytes room (laws.run.by_length exe edges c code q.0)
+    quick_at laws.parts exe edges exits (length (coded_of exe edges).code.bytes) (length (image exe edges)) original bytes room r.by_length
     (omega (arith, long, size)) (omega (arith, long)) (omega arith) (omega (arith, l)))
     (λ (l : fragment_steps exits ≤ length (image exe edges)).
-    quick_at laws.parts exe edges exits (fragment_steps exits) (fragment_steps exits) original bytes room (laws.run.by_paths exe edges c code q.0 (fragment_steps exits) q.1)
+    quick_at laws.parts exe edges exits (fragment_steps exits) (fragment_steps exits) original bytes room (r.by_exits exits know)
     (omega arith) (omega arith) l (omega arith))
     (cases_lt (length (image exe edges)) (fragment_steps exits))

@@ -1,5 +1,5 @@
 -- What becomes code of a lifted block is such a block, with an exit of the same kind.
-use Rattle.std.proofs.Common.{◌≡◌, ℕ, ◌==◌, true, ◌||◌, ap, ◌∙◌}
+use Rattle.std.proofs.Common.{◌≡◌, ℕ, ◌==◌, ◌||◌, refl, ap, ◌∙◌}
 use Rattle.elf_read.specs.declared.exe.Exe.{Exe}
 use Rattle.ssa_form.specs.declared.form.Exit.{Exit}
 use Rattle.ssa_form.specs.declared.form.Exit.TheVariants.{Jump, Cond, Way, Island}
@@ -33,20 +33,21 @@ kind_is (Way v) (Way u) h w = tt
 kind_is (Way v) (Island n) h w = absurd h
 kind_is (Island m) y h w = absurd w
 
-pub out_was : (x y : Exit) → SameKind x y → (z : ℕ) → is_out y z ≡ true → is_out x z ≡ true
-out_was (Jump a) (Jump b) h z e = ap (λ t. z == t) h ∙ e
-out_was (Jump a) (Cond t c d) h z e = absurd h
-out_was (Jump a) (Way v) h z e = absurd h
-out_was (Jump a) (Island n) h z e = absurd h
-out_was (Cond t a b) (Jump c) h z e = absurd h
-out_was (Cond t a b) (Cond u c d) h z e = ap (λ k. z == k || z == b) h.0 ∙ ap (λ k. z == c || z == k) h.1 ∙ e
-out_was (Cond t a b) (Way v) h z e = absurd h
-out_was (Cond t a b) (Island n) h z e = absurd h
-out_was (Way v) (Jump b) h z e = absurd h
-out_was (Way v) (Cond t c d) h z e = absurd h
-out_was (Way v) (Way u) h z e = e
-out_was (Way v) (Island n) h z e = e
-out_was (Island m) (Jump b) h z e = absurd h
-out_was (Island m) (Cond t c d) h z e = absurd h
-out_was (Island m) (Way v) h z e = e
-out_was (Island m) (Island n) h z e = e
+-- they lead directly to the same addresses
+pub same_outs : (x y : Exit) → SameKind x y → (z : ℕ) → is_out x z ≡ is_out y z
+same_outs (Jump a) (Jump b) h z = ap (λ t. z == t) h
+same_outs (Jump a) (Cond t c d) h z = absurd h
+same_outs (Jump a) (Way v) h z = absurd h
+same_outs (Jump a) (Island n) h z = absurd h
+same_outs (Cond t a b) (Jump c) h z = absurd h
+same_outs (Cond t a b) (Cond u c d) h z = ap (λ k. z == k || z == b) h.0 ∙ ap (λ k. z == c || z == k) h.1
+same_outs (Cond t a b) (Way v) h z = absurd h
+same_outs (Cond t a b) (Island n) h z = absurd h
+same_outs (Way v) (Jump b) h z = absurd h
+same_outs (Way v) (Cond t c d) h z = absurd h
+same_outs (Way v) (Way u) h z = refl
+same_outs (Way v) (Island n) h z = refl
+same_outs (Island m) (Jump b) h z = absurd h
+same_outs (Island m) (Cond t c d) h z = absurd h
+same_outs (Island m) (Way v) h z = refl
+same_outs (Island m) (Island n) h z = refl

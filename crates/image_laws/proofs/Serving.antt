@@ -1,11 +1,12 @@
 -- The coding of a start serves its block, from the registers that are live there.
-use Rattle.std.proofs.Common.{◌≡◌, ℕ, suc, ◌==◌, Bool, true, false, ◌||◌, ◌&&◌, List, [], ◌∷◌, map, get_or, refl, sym, ap, ◌∙◌}
+use Rattle.std.proofs.Common.{◌≡◌, ℕ, suc, ◌==◌, Bool, true, false, ◌||◌, ◌&&◌, List, [], ◌∷◌, map, get_or, refl, sym, ap, ◌∙◌, subst}
 use Rattle.std.specs.Prelude.{not, if◌then◌else◌}
 use Rattle.std.proofs.lemmas.Bool.{eqb-true, eq-eqb}
 use Rattle.elf_read.specs.declared.exe.Exe.{Exe}
 use Rattle.run_model.specs.Edges.{Edge}
 use Rattle.block_cut.specs.Transfers.{is_among}
 use Rattle.block_cut.specs.CountedEdges.{counting}
+use Rattle.block_cut.specs.Blocks.{block_of}
 use Rattle.flow_graph.specs.Graph.{known_of, Node}
 use Rattle.flow_graph.specs.GraphOf.{graph_of, starts_of as block_starts}
 use Rattle.ssa_form.specs.declared.form.Exit.{Exit}
@@ -26,11 +27,11 @@ use Rattle.block_make.specs.Laws.{ReadyKeeps, SplitsAreClosed, SplitsAreListed}
 use Rattle.code_layout.specs.Keys.{row_in, rows_in, rows_of, live_of}
 use Rattle.code_layout.proofs.LiveRows.{ready_start, are_narrow}
 use Rattle.sim_runs.specs.Coding.{Exits}
-use Rattle.sim_runs.specs.Recovered.{is_start_of}
-use Rattle.sim_runs.specs.Promised.{is_live_at, is_unknown, exits_of}
+use Rattle.sim_runs.specs.Recovered.{is_island_end, is_start_of}
+use Rattle.sim_runs.specs.Promised.{is_live_at, is_unknown, exits_of, ServesAt}
 use Rattle.piece_laws.specs.Parts.{StandsFor, PartedServe}
-use Rattle.image_laws.specs.Coded.{key_at, coded_of}
-use Rattle.image_laws.specs.Serves.{EachIsLifted, CodingsServe}
+use Rattle.image_laws.specs.Coded.{key_at, coded_of, coding_at}
+use Rattle.image_laws.specs.Serves.{HaveBytes, EachIsLifted, CodingsServe}
 use Rattle.image_laws.proofs.SameKinds.{lifted_is, ready_lifted, kind_is}
 use Rattle.image_laws.proofs.Standing.{same_starts}
 
@@ -143,7 +144,7 @@ pub record Serving : Type 0 where
   pub numbers : NumbersAreClosed
   pub parted : PartedServe
 
-module _ (laws : Serving) (exe : Exe) (edges : List Edge) (x : ℕ) (bytes : Rattle.image_laws.specs.Serves.HaveBytes exe) (start : is_start_of exe edges x ≡ true) where
+module _ (laws : Serving) (exe : Exe) (edges : List Edge) (x : ℕ) (bytes : HaveBytes exe) (start : is_start_of exe edges x ≡ true) where
   abbrev known : List ℕ
   known = known_of exe (counting exe edges) x
 
@@ -181,8 +182,9 @@ module _ (laws : Serving) (exe : Exe) (edges : List Edge) (x : ℕ) (bytes : Rat
       (unknown_same (lift_of exe x).exit block.exit (laws.keeps.kind exe x) known ∙ sym (ap (has_fallback block.exit) (known_same (live_of exe edges) known)))
       (laws.closed block (key_at exe edges x) ((coded_of exe edges).live x) whole fed_here)
 
-pub codings_serve : Serving → CodingsServe
-codings_serve laws exe edges x bytes start plain =
+-- from the registers that the fragments have
+serves_here : Serving → (exe : Exe) (edges : List Edge) (x : ℕ) → HaveBytes exe → is_start_of exe edges x ≡ true → is_island_end (block_of exe x).end ≡ false → ServesAt exe edges (coded_of exe edges) x (coding_at exe edges x)
+serves_here laws exe edges x bytes start plain =
     let h = ready_lifted laws.lifted laws.keeps exe x bytes in
     let stands : StandsFor (lift_of exe x) (choice_of exe (key_at exe edges x)) = record {
       whole = h.whole;
@@ -192,3 +194,9 @@ codings_serve laws exe edges x bytes start plain =
       same = laws.keeps.same exe x (lifted_is laws.lifted exe x bytes);
     } in
     laws.parted (coded_of exe edges).home ((coded_of exe edges).live x) (exits_of exe edges (coded_of exe edges) x) (lift_of exe x) (choice_of exe (key_at exe edges x)) (λ v. refl) stands (laws.listed (ready exe x) (key_at exe edges x) h.whole) (split_here laws exe edges x bytes start)
+
+pub codings_serve : Serving → CodingsServe
+codings_serve laws exe edges c bytes keeps x start plain =
+    subst (λ l. ServesAt exe edges (record c { live = l }) x (coding_at exe edges x)) (sym keeps.live)
+    (subst (λ h. ServesAt exe edges (record c { home = h; live = λ x v. has (live_of exe edges x) v }) x (coding_at exe edges x)) (sym keeps.home)
+    (serves_here laws exe edges x bytes start plain))

@@ -1,7 +1,7 @@
 -- Where the parts of recovered code stand.
-use Rattle.std.proofs.Common.{◌≡◌, ℕ, ◌+◌, ◌-◌, ◌≤◌, Bool, true, false, List, [], ◌∷◌, ◌++◌, length, map, None, refl, sym, ap, ◌∙◌, subst, arith, length-append, append_assoc}
+use Rattle.std.proofs.Common.{◌≡◌, ℕ, ◌+◌, ◌-◌, ◌≤◌, Bool, true, false, if◌then◌else◌, List, [], ◌∷◌, ◌++◌, length, map, None, refl, sym, ap, ◌∙◌, subst, arith, length-append, append_assoc}
 use Rattle.std.proofs.lemmas.List.{append-nil}
-use Rattle.br_word.specs.Memory.{zeros}
+use Rattle.br_word.specs.Memory.{Region, zeros}
 use Rattle.elf_read.specs.declared.exe.Exe.{Exe}
 use Rattle.ia_encode.specs.declared.item.Dest.{Dest}
 use Rattle.ia_encode.specs.declared.item.Dest.TheVariants as dests
@@ -17,14 +17,15 @@ use Rattle.ssa_form.specs.declared.form.BlockKey.{BlockKey}
 use Rattle.par_moves.specs.Homes.{register_homes}
 use Rattle.fall_stubs.specs.Exchange.{capture_items, opening_items, closing_items}
 use Rattle.code_laws.specs.Valid.{CodeValid}
-use Rattle.code_layout.specs.declared.place.TheConstants.{CODE_START}
+use Rattle.code_layout.specs.declared.place.TheConstants.{CODE_START, MAX_CODE}
 use Rattle.code_layout.specs.Keys.{live_of, key_of, keys_of}
-use Rattle.code_layout.specs.Linked.{entry_items, address_in, bytes_at, bytes_from, first_at, linked, fragments_of, has_key, code_of}
+use Rattle.code_layout.specs.Linked.{entry_items, address_in, bytes_at, bytes_from, first_at, linked, fragments_of, has_key, code_of_keys, itself, code_of}
 use Rattle.sim_runs.specs.Recovered.{is_start_of}
 use Rattle.sim_runs.specs.Pieces.{IsLinked}
-use Rattle.image_laws.specs.Coded.{key_at, start_items, entry_of, address_of, goes_of, coded_of}
+use Rattle.image_laws.specs.Coded.{key_at, start_items, entry_of, address_of, goes_with, coded_of}
+use Rattle.image_laws.specs.Linked.{BeginsLinked, HasFragments, is_side_exit}
 use Rattle.image_laws.specs.Stands.{CodeStands}
-use Rattle.image_laws.proofs.Places.{JumpLengths, bytes_long, IsAmong, fragment_at, among}
+use Rattle.image_laws.proofs.Places.{JumpLengths, bytes_long, IsAmong, fragment_at, among, address_low}
 
 -- ---- starts, keys and fragments
 
@@ -74,9 +75,35 @@ no_more bytes = let z : length bytes - length bytes ≡ 0 = omega arith in ap (�
 pub same_bytes : (exe : Exe) (edges : List Edge) → (coded_of exe edges).code.bytes ≡ code_of exe edges
 same_bytes exe edges = no_more (code_of exe edges)
 
-pub whole : (exe : Exe) (edges : List Edge) → code_of exe edges ≡ bytes_at (goes_of exe edges) CODE_START (entry_of exe edges) ++ bytes_from (goes_of exe edges) (first_at (entry_of exe edges)) (fragments_of exe (keys_of exe edges))
-unfolding code_of linked
-whole exe edges = refl
+pub whole : (out : ℕ → ℕ) (exe : Exe) (edges : List Edge) → code_of_keys out exe (keys_of exe edges) ≡ bytes_at (goes_with out exe edges) CODE_START (entry_of exe edges) ++ bytes_from (goes_with out exe edges) (first_at (entry_of exe edges)) (fragments_of exe (keys_of exe edges))
+unfolding linked
+whole out exe edges = refl
+
+by_keys : (exe : Exe) (edges : List Edge) → code_of exe edges ≡ code_of_keys itself exe (keys_of exe edges)
+unfolding code_of
+by_keys exe edges = refl
+
+pub begins_built : (exe : Exe) (edges : List Edge) → BeginsLinked exe edges itself (coded_of exe edges).code
+begins_built exe edges = record {
+  start = refl;
+  behind = [];
+  bytes = same_bytes exe edges ∙ by_keys exe edges ∙ sym (append-nil (code_of_keys itself exe (keys_of exe edges)));
+  small = λ i. omega arith;
+}
+
+one_way : (b : Bool) (y : ℕ) → y ≡ (if b then y else y)
+one_way true y = refl
+one_way false y = refl
+
+pub built : (exe : Exe) (edges : List Edge) → length (code_of exe edges) ≤ MAX_CODE → HasFragments exe edges itself (coded_of exe edges)
+built exe edges room = let q = ap length (same_bytes exe edges) in record {
+  here = record { below = omega (arith, q, room); runs = refl };
+  begins = begins_built exe edges;
+  registers = record { home = refl; live = refl };
+  address = refl;
+  beyond = λ x y. one_way (is_side_exit exe edges x y) y;
+  low = λ y l. l;
+}
 
 size_jump : (is : List Item) (d : Dest) → 5 ≤ size_of_items (is ++ (item.Jump None d ∷ []))
 size_jump [] d = omega arith
@@ -88,51 +115,85 @@ entry_size entry false = omega arith
 
 pub entry_some : JumpLengths → (exe : Exe) (edges : List Edge) → 5 ≤ length (code_of exe edges)
 entry_some laws exe edges =
-    let first = bytes_at (goes_of exe edges) CODE_START (entry_of exe edges) in
-    let rest = bytes_from (goes_of exe edges) (first_at (entry_of exe edges)) (fragments_of exe (keys_of exe edges)) in
-    let a = ap length (whole exe edges) ∙ length-append first rest in
-    let b = bytes_long laws (with_labels (goes_of exe edges) CODE_START (entry_of exe edges)) (entry_of exe edges) CODE_START in
+    let goes = goes_with itself exe edges in
+    let first = bytes_at goes CODE_START (entry_of exe edges) in
+    let rest = bytes_from goes (first_at (entry_of exe edges)) (fragments_of exe (keys_of exe edges)) in
+    let a = ap length (by_keys exe edges ∙ whole itself exe edges) ∙ length-append first rest in
+    let b = bytes_long laws (with_labels goes CODE_START (entry_of exe edges)) (entry_of exe edges) CODE_START in
     let c = entry_size exe.entry (has_key (keys_of exe edges) exe.entry) in
     omega (arith, a, b, c)
 
-module _ (laws : JumpLengths) (exe : Exe) (edges : List Edge) (x : ℕ) (start : is_start_of exe edges x ≡ true) where
+module _ (laws : JumpLengths) (exe : Exe) (edges : List Edge) (out : ℕ → ℕ) (code : Region) (has : BeginsLinked exe edges out code) where
+  abbrev goes : Dest → ℕ
+  goes = goes_with out exe edges
+
   abbrev pub entry_bytes : List ℕ
-  entry_bytes = bytes_at (goes_of exe edges) CODE_START (entry_of exe edges)
+  entry_bytes = bytes_at goes CODE_START (entry_of exe edges)
 
-  pub place : IsAmong (goes_of exe edges) (bytes_from (goes_of exe edges) (first_at (entry_of exe edges)) (fragments_of exe (keys_of exe edges))) (first_at (entry_of exe edges)) (address_of exe edges x) (start_items exe edges x)
-  place =
-      let held : is_among (starts exe edges) x ≡ true = sym (ap (λ xs. is_among xs x) (same_starts exe edges)) ∙ start in
-      subst (λ fs. IsAmong (goes_of exe edges) (bytes_from (goes_of exe edges) (first_at (entry_of exe edges)) fs) (first_at (entry_of exe edges)) (address_in (first_at (entry_of exe edges)) fs x) (start_items exe edges x)) (sym (same_fragments exe edges))
-      (among laws (goes_of exe edges) (start_items exe edges) (starts exe edges) (first_at (entry_of exe edges)) x held)
+  abbrev from : ℕ
+  from = first_at (entry_of exe edges)
 
-  abbrev pub own : List ℕ
-  own = bytes_at (goes_of exe edges) (address_of exe edges x) (start_items exe edges x)
+  abbrev rest_bytes : List ℕ
+  rest_bytes = bytes_from goes from (fragments_of exe (keys_of exe edges))
 
-  pub parts : code_of exe edges ≡ (entry_bytes ++ place.front) ++ (own ++ place.behind)
-  parts = whole exe edges ∙ ap (λ bs. entry_bytes ++ bs) place.bytes ∙ sym (append_assoc entry_bytes place.front (own ++ place.behind))
+  all_bytes : code.bytes ≡ entry_bytes ++ (rest_bytes ++ has.behind)
+  all_bytes = has.bytes ∙ ap (λ bs. bs ++ has.behind) (whole out exe edges) ∙ append_assoc entry_bytes rest_bytes has.behind
 
-  pub begins : address_of exe edges x ≡ CODE_START + length (entry_bytes ++ place.front)
-  begins =
-      let long = bytes_long laws (with_labels (goes_of exe edges) CODE_START (entry_of exe edges)) (entry_of exe edges) CODE_START in
-      let both = length-append entry_bytes place.front in
-      omega (arith, place.place, long, both)
+  entry_long : length entry_bytes ≡ size_of_items (entry_of exe edges)
+  entry_long = bytes_long laws (with_labels goes CODE_START (entry_of exe edges)) (entry_of exe edges) CODE_START
 
-  pub stands : AreValid (start_items exe edges x) → AreDistinct (start_items exe edges x) → IsLinked (coded_of exe edges).code (goes_of exe edges) (address_of exe edges x) (start_items exe edges x)
-  stands valid distinct = record {
-    front = entry_bytes ++ place.front;
-    behind = place.behind;
-    bytes = same_bytes exe edges ∙ parts;
-    place = begins;
-    valid = valid;
-    distinct = distinct;
-  }
+  pub low : (y : ℕ) → address_of exe edges y ≤ code.start + length code.bytes
+  low y =
+      let q = address_low laws goes (fragments_of exe (keys_of exe edges)) from y in
+      let a = ap length all_bytes ∙ length-append entry_bytes (rest_bytes ++ has.behind) in
+      let b = length-append rest_bytes has.behind in
+      omega (arith, q, a, b, entry_long, has.start)
 
-  pub inside : address_of exe edges x + size_of_items (start_items exe edges x) ≤ CODE_START + length (code_of exe edges)
-  inside =
-      let long = bytes_long laws (with_labels (goes_of exe edges) (address_of exe edges x) (start_items exe edges x)) (start_items exe edges x) (address_of exe edges x) in
-      let all = ap length parts ∙ length-append (entry_bytes ++ place.front) (own ++ place.behind) in
-      let rest = length-append own place.behind in
-      omega (arith, begins, long, all, rest)
+  module _ (x : ℕ) (start : is_start_of exe edges x ≡ true) where
+    pub place : IsAmong goes rest_bytes from (address_of exe edges x) (start_items exe edges x)
+    place =
+        let held : is_among (starts exe edges) x ≡ true = sym (ap (λ xs. is_among xs x) (same_starts exe edges)) ∙ start in
+        subst (λ fs. IsAmong goes (bytes_from goes from fs) from (address_in from fs x) (start_items exe edges x)) (sym (same_fragments exe edges))
+        (among laws goes (start_items exe edges) (starts exe edges) from x held)
+
+    abbrev pub own : List ℕ
+    own = bytes_at goes (address_of exe edges x) (start_items exe edges x)
+
+    -- what stands before it, and behind
+    abbrev pub front : List ℕ
+    front = entry_bytes ++ place.front
+
+    abbrev pub behind : List ℕ
+    behind = place.behind ++ has.behind
+
+    pub parts : code.bytes ≡ front ++ (own ++ behind)
+    parts =
+        all_bytes
+        ∙ ap (λ bs. entry_bytes ++ (bs ++ has.behind)) place.bytes
+        ∙ ap (λ bs. entry_bytes ++ bs) (append_assoc place.front (own ++ place.behind) has.behind ∙ ap (λ bs. place.front ++ bs) (append_assoc own place.behind has.behind))
+        ∙ sym (append_assoc entry_bytes place.front (own ++ behind))
+
+    pub begins : address_of exe edges x ≡ code.start + length front
+    begins =
+        let both = length-append entry_bytes place.front in
+        omega (arith, place.place, entry_long, both, has.start)
+
+    pub stands : AreValid (start_items exe edges x) → AreDistinct (start_items exe edges x) → IsLinked code goes (address_of exe edges x) (start_items exe edges x)
+    stands valid distinct = record {
+      front = front;
+      behind = behind;
+      bytes = parts;
+      place = begins;
+      valid = valid;
+      distinct = distinct;
+    }
+
+    pub inside : address_of exe edges x + size_of_items (start_items exe edges x) ≤ code.start + length code.bytes
+    inside =
+        let long = bytes_long laws (with_labels goes (address_of exe edges x) (start_items exe edges x)) (start_items exe edges x) (address_of exe edges x) in
+        let all = ap length parts ∙ length-append front (own ++ behind) in
+        let rest = length-append own behind in
+        omega (arith, begins, long, all, rest)
 
 -- ---- the entry
 
@@ -165,12 +226,12 @@ module _ (valid : CodeValid) where
   entry_distinct entry true = closing_distinct (dests.Block entry)
   entry_distinct entry false = tt
 
-  pub entry_stands : (exe : Exe) (edges : List Edge) → IsLinked (coded_of exe edges).code (goes_of exe edges) CODE_START (entry_of exe edges)
-  entry_stands exe edges = record {
+  pub entry_stands : (exe : Exe) (edges : List Edge) (out : ℕ → ℕ) (code : Region) → BeginsLinked exe edges out code → IsLinked code (goes_with out exe edges) CODE_START (entry_of exe edges)
+  entry_stands exe edges out code has = record {
     front = [];
-    behind = bytes_from (goes_of exe edges) (first_at (entry_of exe edges)) (fragments_of exe (keys_of exe edges));
-    bytes = same_bytes exe edges ∙ whole exe edges;
-    place = omega arith;
+    behind = bytes_from (goes_with out exe edges) (first_at (entry_of exe edges)) (fragments_of exe (keys_of exe edges)) ++ has.behind;
+    bytes = has.bytes ∙ ap (λ bs. bs ++ has.behind) (whole out exe edges) ∙ append_assoc (bytes_at (goes_with out exe edges) CODE_START (entry_of exe edges)) (bytes_from (goes_with out exe edges) (first_at (entry_of exe edges)) (fragments_of exe (keys_of exe edges))) has.behind;
+    place = omega (arith, has.start);
     valid = entry_valid exe.entry (has_key (keys_of exe edges) exe.entry);
     distinct = entry_distinct exe.entry (has_key (keys_of exe edges) exe.entry);
   }
@@ -178,8 +239,9 @@ module _ (valid : CodeValid) where
 pub code_stands : JumpLengths → CodeValid → CodeStands
 code_stands laws valid = record {
   known = known;
-  bytes = same_bytes;
   entry = entry_stands valid;
   fragment = stands laws;
   inside = inside laws;
+  bytes = same_bytes;
+  built = built;
 }

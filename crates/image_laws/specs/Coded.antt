@@ -15,7 +15,7 @@ use Rattle.block_make.specs.Choices.{choice_of}
 use Rattle.block_make.specs.Keys.{has}
 use Rattle.block_make.specs.FragmentItems.{items_of}
 use Rattle.code_layout.specs.Keys.{live_of, key_of, keys_of}
-use Rattle.code_layout.specs.Linked.{entry_items, first_at, address_in, goes_out, fragments_of, has_key, itself, code_of}
+use Rattle.code_layout.specs.Linked.{entry_items, first_at, address_in, goes_out, fragments_of, has_key, code_of}
 use Rattle.code_layout.specs.Image.{code_segment}
 use Rattle.sim_runs.specs.Coding.{Coding}
 use Rattle.sim_runs.specs.Recovered.{Coded}
@@ -36,9 +36,9 @@ entry_of exe edges = entry_items exe.entry (has_key (keys_of exe edges) exe.entr
 abbrev pub address_of : Exe → List Edge → ℕ → ℕ
 address_of exe edges = address_in (first_at (entry_of exe edges)) (fragments_of exe (keys_of exe edges))
 
--- where destinations lie: fragments at their addresses, an address of the original at itself
-abbrev pub goes_of : Exe → List Edge → Dest → ℕ
-goes_of exe edges = goes_out (address_of exe edges) itself
+-- where destinations lie: fragments at their addresses, an address of the original where out says
+abbrev pub goes_with : (ℕ → ℕ) → Exe → List Edge → Dest → ℕ
+goes_with out exe edges = goes_out (address_of exe edges) out
 
 -- the recovered code; the own bytes of a native instruction stand behind the way into it, no other instruction is
 -- copied, and an exit that is not known leads to the original

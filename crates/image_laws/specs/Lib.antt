@@ -1,4 +1,5 @@
 pub mod Coded
+pub mod Linked
 pub mod Stands
 pub mod Serves
 pub mod Laid

@@ -9,10 +9,11 @@ use Rattle.ssa_form.specs.Checked.{checked}
 use Rattle.ssa_form.specs.Same.{SpellsWords}
 use Rattle.lift_flow.specs.LiftedBlock.{lift_of}
 use Rattle.block_make.specs.Prepared.{SpellsFew}
-use Rattle.sim_runs.specs.Recovered.{is_island_end, is_start_of}
+use Rattle.sim_runs.specs.Recovered.{Coded, is_island_end, is_start_of}
 use Rattle.sim_runs.specs.Promised.{ServesAt}
 use Rattle.sim_runs.specs.WholeBlock.{IsWay}
-use Rattle.image_laws.specs.Coded.{coded_of, coding_at}
+use Rattle.image_laws.specs.Coded.{coding_at}
+use Rattle.image_laws.specs.Linked.{KeepsRegisters}
 
 -- the segments of an executable are of bytes
 abbrev pub HaveBytes : Exe → Type 0
@@ -32,6 +33,6 @@ EachIsLifted = (exe : Exe) (x : ℕ) → HaveBytes exe → IsLifted exe x
 
 -- the coding of each block of the graph that is not native serves it
 abbrev pub CodingsServe : Type 0
-CodingsServe = (exe : Exe) (edges : List Edge) (x : ℕ) → HaveBytes exe → is_start_of exe edges x ≡ true
-    → is_island_end (block_of exe x).end ≡ false
-    → ServesAt exe edges (coded_of exe edges) x (coding_at exe edges x)
+CodingsServe = (exe : Exe) (edges : List Edge) (c : Coded) → HaveBytes exe → KeepsRegisters exe edges c
+    → (x : ℕ) → is_start_of exe edges x ≡ true → is_island_end (block_of exe x).end ≡ false
+    → ServesAt exe edges c x (coding_at exe edges x)

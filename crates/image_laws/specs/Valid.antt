@@ -1,11 +1,12 @@
 -- The items of fragments have encodings, and the code is of bytes.
 use Rattle.std.specs.Prelude.{ℕ, ◌<◌, List, get_or}
+use Rattle.br_word.specs.Memory.{Region}
 use Rattle.elf_read.specs.declared.exe.Exe.{Exe}
 use Rattle.elf_read.specs.Elf.{IsGuest}
 use Rattle.ia_encode.specs.Items.{AreValid}
 use Rattle.run_model.specs.Edges.{Edge}
-use Rattle.code_layout.specs.Linked.{code_of}
 use Rattle.image_laws.specs.Coded.{start_items}
+use Rattle.image_laws.specs.Linked.{BeginsLinked}
 use Rattle.image_laws.specs.Serves.{HaveBytes}
 
 -- those of each start
@@ -14,4 +15,5 @@ ItemsValid = (exe : Exe) (edges : List Edge) (x : ℕ) → IsGuest exe → HaveB
 
 -- where the segments of an executable are of bytes, so is the code
 abbrev pub CodeIsBytes : Type 0
-CodeIsBytes = (exe : Exe) (edges : List Edge) → IsGuest exe → HaveBytes exe → (i : ℕ) → get_or (code_of exe edges) i 0 < 256
+CodeIsBytes = (exe : Exe) (edges : List Edge) (out : ℕ → ℕ) (code : Region) → IsGuest exe → HaveBytes exe
+    → BeginsLinked exe edges out code → (i : ℕ) → get_or code.bytes i 0 < 256

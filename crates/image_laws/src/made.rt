@@ -19,7 +19,8 @@ pub fn each_is_made()
     keys_are_keys();
 }
 
-/// Where the code is of bytes and has room, the fragments of starts are made of pieces that do what they have to.
+/// In code of bytes into which fragments were linked, with addresses of the original wherever a map says, they are made of pieces that do what
+/// they have to: a direct exit that is not known leads where the map says, an indirect one to the address itself.
 pub fn fragments_made()
     ensures { FragmentsAreMade }
 {

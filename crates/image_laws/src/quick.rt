@@ -1,9 +1,9 @@
 //! How many steps the file of an original and edges takes.
-ghost use Rattle.image_laws.specs.Quick.{FragmentsQuick, ImagesQuick};
+ghost use Rattle.image_laws.specs.Quick.{FragmentsLinkedRun, FragmentsQuick, ImagesQuick};
 
 use crate::exchanged::states_exchanged;
 use crate::laid::{images_hold, images_laid};
-use crate::made::each_is_made;
+use crate::made::{each_is_made, fragments_made};
 use crate::serves::{codings_serve, lifted_blocks};
 use crate::stands::code_stands;
 use crate::valid::code_is_bytes;
@@ -27,17 +27,26 @@ pub fn fragments_quick()
     codes_short();
 }
 
-/// So each fragment runs within as many steps, and the code at the entry within 64.
-pub fn images_quick()
-    ensures { ImagesQuick }
+/// So each fragment runs within as many steps, and within as many as the code has bytes: to the block of a known exit, or with the state
+/// in its registers, and a private segment that is ready for a capture, to where the code goes on for an exit that is not known.
+pub fn linked_run()
+    ensures { FragmentsLinkedRun }
 {
+    fragments_made();
     fragments_quick();
     each_is_made();
     code_is_bytes();
+    fragments_run();
+}
+
+/// In the file of an original and edges, each fragment runs within as many steps, and the code at the entry within 64.
+pub fn images_quick()
+    ensures { ImagesQuick }
+{
+    linked_run();
     code_stands();
     codings_serve();
     states_exchanged();
     images_laid();
     images_hold();
-    fragments_run();
 }

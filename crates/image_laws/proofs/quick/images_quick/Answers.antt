@@ -11,9 +11,6 @@ returns c =
         hold = c.images_hold.ensures;
         exchanged = c.states_exchanged.ensures;
       };
-      quick = c.fragments_quick.ensures;
-      each = c.each_is_made.ensures;
-      bytes = c.code_is_bytes.ensures;
-      run = c.fragments_run.ensures;
+      run = c.linked_run.ensures;
     } in
     images_quick laws
