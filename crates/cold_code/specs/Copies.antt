@@ -37,6 +37,10 @@ pub record Around : Type 0 where
 abbrev pub by_labels : List ℕ → List ℕ → Around
 by_labels starts cold = record { is_start = is_among starts; is_cold = is_among cold; to = dests.Label }
 
+-- with the names of blocks
+abbrev pub by_blocks : List ℕ → List ℕ → Around
+by_blocks starts cold = record { is_start = is_among starts; is_cold = is_among cold; to = dests.Block }
+
 -- ---- how a copy goes on
 
 -- to an address: its block, from a captured state, or its copy, or the original

@@ -4,11 +4,12 @@ ghost use Rattle.std.specs.List.Sorted.{IsStrictlyIncreasing};
 ghost use Rattle.elf_read.specs.Elf.{IsGuest};
 ghost use Rattle.ia_encode.specs.declared.item.Item.TheVariants as item;
 ghost use Rattle.fall_stubs.specs.Exchange.{Grew};
-ghost use Rattle.cold_code.specs.Copies.{df_items, copy_items};
+ghost use Rattle.cold_code.specs.Copies.{by_blocks, df_items, copy_of, copy_items};
+ghost use Rattle.cold_code.specs.Around.{around, AreAscending};
 
 use crate::ends::{part, put_end};
 use crate::insts::store_number;
-use crate::members::Starts;
+use crate::members::{Naming, Starts};
 use block_cut::{Spelled, instruction_at};
 use cold_cut::MAX_COPIED;
 use elf_read::Exe;
@@ -41,6 +42,30 @@ fn put_own(p: &mut Piece, own: &Spelled) -> Result<(), AllocError>
     put_direction(p, &own.inst)
 }
 
+/// The copy of the cold block of a start.
+fn put_copy(p: &mut Piece, exe: &Exe, start: u32, starts: &Starts) -> Result<(), AllocError>
+    requires guest { IsGuest exe.now }
+    requires starts { AreAscending starts.now }
+    ensures ok { OnOk result (p.new ≡ p.old ++ copy_of exe.now (around starts.now) start) }
+    ensures err { OnErr result (Grew p.old p.new (copy_of exe.now (around starts.now) start)) }
+{
+    let mut at = start;
+    let mut count = 0;
+    while count < MAX_COPIED {
+        let Some(here) = instruction_at(exe, at) else {
+            return p.jump(None, Dest::Original(at));
+        };
+        let next = at + here.len as u32;
+        match kind(&here.inst) {
+            Kind::Plain | Kind::Island => put_own(p, &here)?,
+            Kind::Transfer => return put_end(p, starts, &here.inst, next),
+        }
+        at = next;
+        count += 1;
+    }
+    part(p, starts, at)
+}
+
 /// Appends the copy of the cold block of a start, beside ascending lists of the starts of blocks and of copies. It begins with the
 /// label of the start. A jump to another copy is one to the label of its start, and one to the dispatcher is to the label 0; its own
 /// label is 1.
@@ -69,21 +94,34 @@ pub fn copy(
     let around = Starts {
         blocks: starts,
         copies: cold,
+        naming: Naming::Labels,
     };
     p.label(start)?;
-    let mut at = start;
-    let mut count = 0;
-    while count < MAX_COPIED {
-        let Some(here) = instruction_at(exe, at) else {
-            return p.jump(None, Dest::Original(at));
-        };
-        let next = at + here.len as u32;
-        match kind(&here.inst) {
-            Kind::Plain | Kind::Island => put_own(p, &here)?,
-            Kind::Transfer => return put_end(p, &around, &here.inst, next),
-        }
-        at = next;
-        count += 1;
-    }
-    part(p, &around, at)
+    put_copy(p, exe, start, &around)
+}
+
+/// Appends the copy of the cold block of a start, as `copy` does, for a piece of its own: it does not begin with the label of the start,
+/// and jumps to another copy are jumps to the block of its start, and jumps to the dispatcher jumps to the block 0. Its only label is 1.
+/// At most 64 instructions are copied.
+///
+/// An error comes for want of memory, and then a front part was appended.
+pub fn linked_copy(
+    p: &mut Piece,
+    exe: &Exe,
+    start: u32,
+    starts: &[u32],
+    cold: &[u32],
+) -> Result<(), AllocError>
+    requires guest { IsGuest exe.now }
+    requires starts { IsStrictlyIncreasing starts.now }
+    requires cold { IsStrictlyIncreasing cold.now }
+    ensures ok { OnOk result (p.new ≡ p.old ++ copy_of exe.now (by_blocks starts.now cold.now) start) }
+    ensures err { OnErr result (Grew p.old p.new (copy_of exe.now (by_blocks starts.now cold.now) start)) }
+{
+    let around = Starts {
+        blocks: starts,
+        copies: cold,
+        naming: Naming::Blocks,
+    };
+    put_copy(p, exe, start, &around)
 }

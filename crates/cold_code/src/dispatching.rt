@@ -4,11 +4,12 @@ ghost use Rattle.std.specs.List.Sorted.{IsStrictlyIncreasing};
 ghost use Rattle.block_cut.specs.Transfers.{is_among};
 ghost use Rattle.ia_encode.specs.declared.item.Dest.TheVariants as dests;
 ghost use Rattle.fall_stubs.specs.Exchange.{Grew};
-ghost use Rattle.cold_code.specs.Dispatcher.{tree, hit, hits, missed, dispatcher_of, dispatcher_items};
+ghost use Rattle.cold_code.specs.Around.{named};
+ghost use Rattle.cold_code.specs.Dispatcher.{merged, tree, hit, hits, missed, dispatcher_of, dispatcher_items};
 
 use crate::insts::{JUMP_SLOT, comparison, leave, load};
 use crate::joining::merged;
-use crate::members::is_member;
+use crate::members::{Naming, Starts, is_member, named};
 use fall_stubs::restore;
 use ia_encode::{Dest, Item, Piece};
 use std::alloc::{AllocError, Global};
@@ -52,30 +53,30 @@ fn tree(p: &mut Piece, list: &[u32], first: u32, miss: u32, fresh: u32) -> Resul
 }
 
 /// What is met: the block of a start, or a copy with the state in its registers.
-fn hit(p: &mut Piece, starts: &[u32], address: u32, label: u32) -> Result<(), AllocError>
-    requires { IsStrictlyIncreasing starts.now }
-    ensures ok { OnOk result (p.new ≡ p.old ++ hit dests.Label (is_among starts.now address) address label) }
-    ensures err { OnErr result (Grew p.old p.new (hit dests.Label (is_among starts.now address) address label)) }
+fn hit(p: &mut Piece, around: &Starts, address: u32, label: u32) -> Result<(), AllocError>
+    requires { IsStrictlyIncreasing around.now.blocks.now }
+    ensures ok { OnOk result (p.new ≡ p.old ++ hit (named around.now.naming) (is_among around.now.blocks.now address) address label) }
+    ensures err { OnErr result (Grew p.old p.new (hit (named around.now.naming) (is_among around.now.blocks.now address) address label)) }
 {
-    if is_member(starts, address) {
+    if is_member(around.blocks, address) {
         p.jump(None, Dest::Block(address))
     } else {
         restore(p, label)?;
-        p.jump(None, Dest::Label(address))
+        p.jump(None, named(around.naming, address))
     }
 }
 
 /// What is met for each address, with labels from 1 on; labels from `label` on are free.
-fn hits(p: &mut Piece, starts: &[u32], all: &[u32], label: u32) -> Result<(), AllocError>
-    requires starts { IsStrictlyIncreasing starts.now }
+fn hits(p: &mut Piece, around: &Starts, all: &[u32], label: u32) -> Result<(), AllocError>
+    requires starts { IsStrictlyIncreasing around.now.blocks.now }
     requires few { label + length all.now < 2 ^ 32 }
-    ensures ok { OnOk result (p.new ≡ p.old ++ hits dests.Label (is_among starts.now) all.now 0 label) }
-    ensures err { OnErr result (Grew p.old p.new (hits dests.Label (is_among starts.now) all.now 0 label)) }
+    ensures ok { OnOk result (p.new ≡ p.old ++ hits (named around.now.naming) (is_among around.now.blocks.now) all.now 0 label) }
+    ensures err { OnErr result (Grew p.old p.new (hits (named around.now.naming) (is_among around.now.blocks.now) all.now 0 label)) }
 {
     for index in 0..all.len() {
         let number = index as u32;
         p.label(number + 1)?;
-        hit(p, starts, all[index], label + number)?;
+        hit(p, around, all[index], label + number)?;
     }
     Ok(())
 }
@@ -90,18 +91,20 @@ fn missed(p: &mut Piece, miss: u32, label: u32) -> Result<(), AllocError>
     p.put(&leave())
 }
 
-/// The dispatcher of addresses, of which there are some.
-fn dispatch(p: &mut Piece, starts: &[u32], all: &[u32]) -> Result<(), AllocError>
-    requires starts { IsStrictlyIncreasing starts.now }
-    requires some { 0 < length all.now }
+/// The dispatcher of addresses.
+fn dispatch(p: &mut Piece, around: &Starts, all: &[u32]) -> Result<(), AllocError>
+    requires starts { IsStrictlyIncreasing around.now.blocks.now }
     requires few { length all.now ≤ 131072 }
-    ensures ok { OnOk result (p.new ≡ p.old ++ dispatcher_of dests.Label (is_among starts.now) all.now) }
-    ensures err { OnErr result (Grew p.old p.new (dispatcher_of dests.Label (is_among starts.now) all.now)) }
+    ensures ok { OnOk result (p.new ≡ p.old ++ dispatcher_of (named around.now.naming) (is_among around.now.blocks.now) all.now) }
+    ensures err { OnErr result (Grew p.old p.new (dispatcher_of (named around.now.naming) (is_among around.now.blocks.now) all.now)) }
 {
+    if all.is_empty() {
+        return Ok(());
+    }
     let count = all.len() as u32;
     p.put(&load(0, JUMP_SLOT))?;
     tree(p, all, 0, 1 + count, 2 + count)?;
-    hits(p, starts, all, 2 + 2 * count)?;
+    hits(p, around, all, 2 + 2 * count)?;
     missed(p, 1 + count, 2 + 3 * count)
 }
 
@@ -125,10 +128,37 @@ pub fn dispatcher(
     ensures ok { OnOk result (p.new ≡ p.old ++ dispatcher_items starts.now cold.now) }
     ensures err { OnErr result (Grew p.old p.new (dispatcher_items starts.now cold.now)) }
 {
+    let around = Starts {
+        blocks: starts,
+        copies: cold,
+        naming: Naming::Labels,
+    };
     let all = merged(alloc, starts, cold)?;
     p.label(0)?;
-    if all.is_empty() {
-        return Ok(());
-    }
-    dispatch(p, starts, all.as_slice())
+    dispatch(p, &around, all.as_slice())
+}
+
+/// Appends the dispatcher of the starts of blocks and of copies, as `dispatcher` does, for a piece of its own: it does not begin with the
+/// label 0, and a jump to a copy is one to the block of its start. Without any start it is empty.
+///
+/// An error comes for want of memory, and then a front part was appended.
+pub fn linked_dispatcher(
+    alloc: Global,
+    p: &mut Piece,
+    starts: &[u32],
+    cold: &[u32],
+) -> Result<(), AllocError>
+    requires starts { IsStrictlyIncreasing starts.now }
+    requires few { length starts.now ≤ 65536 }
+    requires few_cold { length cold.now ≤ 65536 }
+    ensures ok { OnOk result (p.new ≡ p.old ++ dispatcher_of dests.Block (is_among starts.now) (merged starts.now cold.now)) }
+    ensures err { OnErr result (Grew p.old p.new (dispatcher_of dests.Block (is_among starts.now) (merged starts.now cold.now))) }
+{
+    let around = Starts {
+        blocks: starts,
+        copies: cold,
+        naming: Naming::Blocks,
+    };
+    let all = merged(alloc, starts, cold)?;
+    dispatch(p, &around, all.as_slice())
 }

@@ -1,21 +1,20 @@
 //! How copies go on.
 ghost use Rattle.std.specs.Prelude.{◌≡◌, ◌++◌, ◌∷◌, ◌<◌, IsTrue, OnOk, OnErr};
 ghost use Rattle.ia_inst.specs.Canonical.{valid_of, rm_valid};
-ghost use Rattle.ia_encode.specs.declared.item.Dest.TheVariants as dests;
 ghost use Rattle.par_moves.specs.Homes.{register_homes};
 ghost use Rattle.fall_stubs.specs.Exchange.{closing_items, Grew};
 ghost use Rattle.cold_code.specs.Copies.{part, aim, push_next, pop_more, pop_to_slot, either_items, end_by};
-ghost use Rattle.cold_code.specs.Around.{around, AreAscending};
+ghost use Rattle.cold_code.specs.Around.{named, around, AreAscending};
 
 use crate::insts::{JUMP_SLOT, load, load_memory, pop, push, raise, store};
-use crate::members::{Starts, is_member};
+use crate::members::{Naming, Starts, is_member, named};
 use fall_stubs::capture;
 use ia_encode::{Dest, Item, Piece};
 use ia_inst::{Inst, Rm};
 use par_moves::SPARE;
 use std::alloc::AllocError;
 
-/// The label of the dispatcher.
+/// What names the dispatcher.
 pub const DISPATCHER: u32 = 0;
 
 /// The state is captured, and this is next.
@@ -36,7 +35,7 @@ pub fn part(p: &mut Piece, starts: &Starts, address: u32) -> Result<(), AllocErr
     if is_member(starts.blocks, address) {
         close(p, Dest::Block(address))
     } else if is_member(starts.copies, address) {
-        p.jump(None, Dest::Label(address))
+        p.jump(None, named(starts.naming, address))
     } else {
         p.jump(None, Dest::Original(address))
     }
@@ -83,24 +82,24 @@ fn call(p: &mut Piece, starts: &Starts, target: u32, next: u32) -> Result<(), Al
 }
 
 /// An indirect call.
-fn call_by(p: &mut Piece, target: Rm, next: u32) -> Result<(), AllocError>
+fn call_by(p: &mut Piece, naming: Naming, target: Rm, next: u32) -> Result<(), AllocError>
     requires { IsTrue (rm_valid target) }
-    ensures ok { OnOk result (p.new ≡ p.old ++ (aim target ++ (push_next next ∷ closing_items register_homes (dests.Label 0)))) }
-    ensures err { OnErr result (Grew p.old p.new (aim target ++ (push_next next ∷ closing_items register_homes (dests.Label 0)))) }
+    ensures ok { OnOk result (p.new ≡ p.old ++ (aim target ++ (push_next next ∷ closing_items register_homes (named naming 0)))) }
+    ensures err { OnErr result (Grew p.old p.new (aim target ++ (push_next next ∷ closing_items register_homes (named naming 0)))) }
 {
     aim(p, target)?;
     p.put(&push(next))?;
-    close(p, Dest::Label(DISPATCHER))
+    close(p, named(naming, DISPATCHER))
 }
 
 /// An indirect jump.
-fn jump_by(p: &mut Piece, target: Rm) -> Result<(), AllocError>
+fn jump_by(p: &mut Piece, naming: Naming, target: Rm) -> Result<(), AllocError>
     requires { IsTrue (rm_valid target) }
-    ensures ok { OnOk result (p.new ≡ p.old ++ (aim target ++ closing_items register_homes (dests.Label 0))) }
-    ensures err { OnErr result (Grew p.old p.new (aim target ++ closing_items register_homes (dests.Label 0))) }
+    ensures ok { OnOk result (p.new ≡ p.old ++ (aim target ++ closing_items register_homes (named naming 0))) }
+    ensures err { OnErr result (Grew p.old p.new (aim target ++ closing_items register_homes (named naming 0))) }
 {
     aim(p, target)?;
-    close(p, Dest::Label(DISPATCHER))
+    close(p, named(naming, DISPATCHER))
 }
 
 /// What RET drops from the stack beside its address.
@@ -115,13 +114,13 @@ fn drop_more(p: &mut Piece, count: u16) -> Result<(), AllocError>
 }
 
 /// A return.
-fn give_back(p: &mut Piece, count: u16) -> Result<(), AllocError>
-    ensures ok { OnOk result (p.new ≡ p.old ++ pop_to_slot ∷ (pop_more count ++ closing_items register_homes (dests.Label 0))) }
-    ensures err { OnErr result (Grew p.old p.new (pop_to_slot ∷ (pop_more count ++ closing_items register_homes (dests.Label 0)))) }
+fn give_back(p: &mut Piece, naming: Naming, count: u16) -> Result<(), AllocError>
+    ensures ok { OnOk result (p.new ≡ p.old ++ pop_to_slot ∷ (pop_more count ++ closing_items register_homes (named naming 0))) }
+    ensures err { OnErr result (Grew p.old p.new (pop_to_slot ∷ (pop_more count ++ closing_items register_homes (named naming 0)))) }
 {
     p.put(&pop())?;
     drop_more(p, count)?;
-    close(p, Dest::Label(DISPATCHER))
+    close(p, named(naming, DISPATCHER))
 }
 
 /// What does the same as a transfer and leads on, with the address behind it.
@@ -135,9 +134,9 @@ pub fn put_end(p: &mut Piece, starts: &Starts, inst: &Inst, next: u32) -> Result
         Inst::Jcc { cond, rel } => either(p, starts, cond, next.wrapping_add(rel), next),
         Inst::Jmp { rel } => part(p, starts, next.wrapping_add(rel)),
         Inst::Call { rel } => call(p, starts, next.wrapping_add(rel), next),
-        Inst::JmpRm { target } => jump_by(p, target),
-        Inst::CallRm { target } => call_by(p, target, next),
-        Inst::Ret { pop } => give_back(p, pop),
+        Inst::JmpRm { target } => jump_by(p, starts.naming, target),
+        Inst::CallRm { target } => call_by(p, starts.naming, target, next),
+        Inst::Ret { pop } => give_back(p, starts.naming, pop),
         _ => Ok(()),
     }
 }

@@ -9,8 +9,8 @@ mod insts;
 mod joining;
 mod members;
 
-pub use copies::copy;
-pub use dispatching::dispatcher;
+pub use copies::{copy, linked_copy};
+pub use dispatching::{dispatcher, linked_dispatcher};
 
 #[cfg(test)]
 mod tests;

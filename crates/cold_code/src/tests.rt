@@ -4,7 +4,7 @@ ghost use Rattle.elf_read.specs.Elf.{IsGuest};
 ghost use Rattle.ia_encode.specs.Items.{AreValid};
 
 use crate::insts::{comparison, leave, load, load_memory, pop, push, raise, store, store_number};
-use crate::{copy, dispatcher};
+use crate::{copy, dispatcher, linked_copy, linked_dispatcher};
 use elf_read::{Bytes, Exe, Perms, Segment, Segments};
 use fall_stubs::{capture, restore};
 use ia_encode::{Dest, Item, Piece};
@@ -244,5 +244,69 @@ fn dispatches_nothing(rt: HostRuntime) -> Result<(), Fail> {
     let mut piece = Piece::new(rt.alloc());
     dispatcher(rt.alloc(), &mut piece, &[], &[])?;
     assert!(rt; piece.items() == [Item::Label(0)].as_slice());
+    Ok(())
+}
+
+/// The item with the name of a block for the label of a copy or of the dispatcher.
+fn linked(item: &Item) -> Item {
+    match *item {
+        Item::Jump {
+            cond,
+            to: Dest::Label(label),
+        } if label == 0 || label >= 0x0804_8000 => Item::Jump {
+            cond,
+            to: Dest::Block(label),
+        },
+        _ => *item,
+    }
+}
+
+/// The items but the first, with the names of blocks.
+fn linked_items(alloc: Global, items: &[Item]) -> Result<Vec<Item>, AllocError> {
+    let mut all = Vec::new(alloc);
+    for item in items.iter().skip(1) {
+        all.push(linked(item))?;
+    }
+    Ok(all)
+}
+
+/// Whether the copy of code differs from the one in a piece of its own by the names alone.
+fn differs_by_names(alloc: Global, code: &[u8]) -> Result<bool, AllocError>
+    requires some { 0 < length code.now }
+    requires few { length code.now ≤ 100 }
+{
+    let starts = [0x0804_8020];
+    let cold = [0x0804_8000, 0x0804_8006];
+    let exe = with_code(alloc, code)?;
+    let mut piece = Piece::new(alloc);
+    copy(&mut piece, &exe, 0x0804_8000, &starts, &cold)?;
+    let mut own = Piece::new(alloc);
+    linked_copy(&mut own, &exe, 0x0804_8000, &starts, &cold)?;
+    Ok(own.items() == linked_items(alloc, piece.items())?.as_slice())
+}
+
+#[test]
+fn names_copies_as_blocks(rt: HostRuntime) -> Result<(), Fail> {
+    // cld; std; int 0x80; jz 08048020
+    assert!(rt; differs_by_names(rt.alloc(), &[0xfc, 0xfd, 0xcd, 0x80, 0x74, 0x1a])?);
+    // jmp 08048006
+    assert!(rt; differs_by_names(rt.alloc(), &[0xeb, 0x04])?);
+    // jmp ecx; call [eax+0x10]; ret
+    assert!(rt; differs_by_names(rt.alloc(), &[0xff, 0xe1])?);
+    assert!(rt; differs_by_names(rt.alloc(), &[0xff, 0x50, 0x10])?);
+    assert!(rt; differs_by_names(rt.alloc(), &[0xc3])?);
+    Ok(())
+}
+
+#[test]
+fn dispatches_to_blocks(rt: HostRuntime) -> Result<(), Fail> {
+    let starts = [0x0804_8010];
+    let cold = [0x0804_8000, 0x0804_8020];
+    let mut piece = Piece::new(rt.alloc());
+    dispatcher(rt.alloc(), &mut piece, &starts, &cold)?;
+    let expected = linked_items(rt.alloc(), piece.items())?;
+    let mut piece = Piece::new(rt.alloc());
+    linked_dispatcher(rt.alloc(), &mut piece, &starts, &cold)?;
+    assert!(rt; piece.items() == expected.as_slice());
     Ok(())
 }
