@@ -3,3 +3,4 @@ pub mod Searching
 pub mod Walking
 pub mod Trees
 pub mod Meeting
+pub mod Joined

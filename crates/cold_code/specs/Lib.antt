@@ -1,3 +1,4 @@
 pub mod Copies
 pub mod Dispatcher
+pub mod Joining
 pub mod Around

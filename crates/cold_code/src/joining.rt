@@ -1,6 +1,7 @@
 //! One list of two.
 ghost use Rattle.std.specs.Prelude.{◌≡◌, IfOk};
 ghost use Rattle.cold_code.specs.Dispatcher.{merged};
+ghost use Rattle.cold_code.specs.Joining.{MembersOfBoth, AsManyAsBoth, MergedAscends, MergedBelow};
 
 use std::alloc::{AllocError, Global};
 
@@ -23,3 +24,12 @@ pub fn merged(alloc: Global, first: &[u32], second: &[u32]) -> Result<Vec<u32>, 
     all.extend_from_slice(&second[right..])?;
     Ok(all)
 }
+
+/// Two lists that are joined have the members of both, each as often as there, and no bound of both is passed. Strictly ascending lists
+/// that share no member give a strictly ascending one.
+pub fn merged_lists()
+    ensures members { MembersOfBoth }
+    ensures length { AsManyAsBoth }
+    ensures ascends { MergedAscends }
+    ensures below { MergedBelow }
+{}

@@ -11,6 +11,7 @@ mod members;
 
 pub use copies::{copy, linked_copy};
 pub use dispatching::{dispatcher, linked_dispatcher};
+pub use joining::merged_lists;
 
 #[cfg(test)]
 mod tests;
