@@ -1,9 +1,9 @@
 -- Two lists that are joined: their members, order and bounds.
-use Rattle.std.proofs.Common.{◌≡◌, ℕ, zero, suc, ◌+◌, ◌<◌, ◌≤◌, Bool, true, false, ◌||◌, List, [], ◌∷◌, length, get_or, All, refl, ap, subst, inl, inr, arith}
+use Rattle.std.proofs.Common.{◌≡◌, ℕ, zero, suc, ◌+◌, ◌<◌, Bool, true, false, ◌||◌, List, [], ◌∷◌, get_or, All, refl, ap, subst, inl, inr, arith}
 use Rattle.std.specs.Prelude.{◌==◌, nat_lt, if◌then◌else◌}
 use Rattle.std.specs.List.Sorted.{IsStrictlyIncreasing}
 use Rattle.std.proofs.lemmas.Bool.{eq-eqb, ltb-true, ltb-false, cases_lt}
-use Rattle.std.proofs.lemmas.List.Elements.{All-nil, All-cons, All-head, All-tail}
+use Rattle.std.proofs.lemmas.List.Elements.{All-cons, All-head, All-tail}
 use Rattle.block_cut.specs.Transfers.{is_among}
 use Rattle.cold_code.specs.Dispatcher.{merge_step, merged}
 use Rattle.cold_code.specs.Joining.{AreApart, MembersOfBoth, MergedAscends, MergedBelow}
@@ -39,24 +39,25 @@ pub members_of_both : MembersOfBoth
 members_of_both [] ys v = refl
 members_of_both (x ∷ xs) ys v = members_step x xs v (λ zs. members_of_both xs zs v) ys
 
--- ---- bounds
+-- ---- what holds of all
 
-below_step : (x : ℕ) (xs : List ℕ) (high : ℕ) → x < high → ((ys : List ℕ) → All (λ x. x < high) ys → All (λ x. x < high) (merged xs ys))
-    → (ys : List ℕ) → All (λ x. x < high) ys → All (λ x. x < high) (merge_step x (merged xs) ys)
-below_step x xs high l h [] b = All-cons (λ x. x < high) x (merged xs []) l (h [] b)
-below_step x xs high l h (y ∷ ys) b =
+all_step : (P : ℕ → Type 0) (x : ℕ) (xs : List ℕ) → P x → ((ys : List ℕ) → All P ys → All P (merged xs ys)) → (ys : List ℕ) → All P ys → All P (merge_step x (merged xs) ys)
+all_step P x xs l h [] b = All-cons P x (merged xs []) l (h [] b)
+all_step P x xs l h (y ∷ ys) b =
     go (nat_lt y x)
-    (All-cons (λ x. x < high) y (merge_step x (merged xs) ys) (All-head (λ x. x < high) y ys b) (below_step x xs high l h ys (All-tail (λ x. x < high) y ys b)))
-    (All-cons (λ x. x < high) x (merged xs (y ∷ ys)) l (h (y ∷ ys) b))
+    (All-cons P y (merge_step x (merged xs) ys) (All-head P y ys b) (all_step P x xs l h ys (All-tail P y ys b)))
+    (All-cons P x (merged xs (y ∷ ys)) l (h (y ∷ ys) b))
   where
-    go : (c : Bool) → All (λ x. x < high) (y ∷ merge_step x (merged xs) ys) → All (λ x. x < high) (x ∷ merged xs (y ∷ ys)) → All (λ x. x < high) (if c then (y ∷ merge_step x (merged xs) ys) else (x ∷ merged xs (y ∷ ys)))
+    go : (c : Bool) → All P (y ∷ merge_step x (merged xs) ys) → All P (x ∷ merged xs (y ∷ ys)) → All P (if c then (y ∷ merge_step x (merged xs) ys) else (x ∷ merged xs (y ∷ ys)))
     go true p q = p
     go false p q = q
 
+pub all_merged : (P : ℕ → Type 0) (xs ys : List ℕ) → All P xs → All P ys → All P (merged xs ys)
+all_merged P [] ys a b = b
+all_merged P (x ∷ xs) ys a b = all_step P x xs (All-head P x xs a) (λ zs c. all_merged P xs zs (All-tail P x xs a) c) ys b
+
 pub merged_below : MergedBelow
-merged_below [] ys high a b = b
-merged_below (x ∷ xs) ys high a b =
-    below_step x xs high (All-head (λ x. x < high) x xs a) (λ zs c. merged_below xs zs high (All-tail (λ x. x < high) x xs a) c) ys b
+merged_below xs ys high a b = all_merged (λ x. x < high) xs ys a b
 
 -- ---- order
 

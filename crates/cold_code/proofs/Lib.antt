@@ -4,3 +4,6 @@ pub mod Walking
 pub mod Trees
 pub mod Meeting
 pub mod Joined
+pub mod PartCode
+pub mod CopyCode
+pub mod DispatcherCode

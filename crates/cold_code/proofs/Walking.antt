@@ -49,12 +49,15 @@ module _ (exe : Exe) (a : Around) where
     unfolding to_come
     island_comes k = next kinds.Island k ∙ ap (λ kind. inst_items exe a kind here ++ block_items exe a (at + n) (cold_from exe less (at + n))) k
 
-    pub transfer_comes : at + n < 2 ^ 32 → kind_of i ≡ kinds.Transfer → to_come room at ≡ end_by a i (at + n)
-    transfer_comes low k =
+    pub transfer_ends : kind_of i ≡ kinds.Transfer → to_come room at ≡ end_by a i (wrap (at + n))
+    unfolding to_come
+    transfer_ends k =
         next kinds.Transfer k
         ∙ (ap (λ kind. inst_items exe a kind here ++ []) k
-        ∙ (append-nil (end_by a i (wrap (at + n)))
-        ∙ ap (end_by a i) (small (at + n) low)))
+        ∙ append-nil (end_by a i (wrap (at + n))))
+
+    pub transfer_comes : at + n < 2 ^ 32 → kind_of i ≡ kinds.Transfer → to_come room at ≡ end_by a i (at + n)
+    transfer_comes low k = transfer_ends k ∙ ap (end_by a i) (small (at + n) low)
       where
         small : (x : ℕ) → x < 2 ^ 32 → wrap x ≡ x
         small x l = omega (arith, l)

@@ -1,4 +1,5 @@
 pub mod Copies
 pub mod Dispatcher
 pub mod Joining
+pub mod Linkable
 pub mod Around

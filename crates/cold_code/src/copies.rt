@@ -100,9 +100,8 @@ pub fn copy(
     put_copy(p, exe, start, &around)
 }
 
-/// Appends the copy of the cold block of a start, as `copy` does, for a piece of its own: it does not begin with the label of the start,
-/// and jumps to another copy are jumps to the block of its start, and jumps to the dispatcher jumps to the block 0. Its only label is 1.
-/// At most 64 instructions are copied.
+/// Appends the copy of the cold block of a start, as `copy` does, for a piece of its own: it does not begin with the label of the start, a
+/// jump to a copy is one to the block of its start, and one to the dispatcher is to the block 0. Its only label is 1.
 ///
 /// An error comes for want of memory, and then a front part was appended.
 pub fn linked_copy(

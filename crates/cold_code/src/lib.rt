@@ -7,11 +7,13 @@ mod dispatching;
 mod ends;
 mod insts;
 mod joining;
+mod linking;
 mod members;
 
 pub use copies::{copy, linked_copy};
 pub use dispatching::{dispatcher, linked_dispatcher};
 pub use joining::merged_lists;
+pub use linking::copies_are_code;
 
 #[cfg(test)]
 mod tests;
