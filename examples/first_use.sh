@@ -63,6 +63,10 @@ does 'coverage --functions --html count.html count T1' "function 080[0-9a-f]{5} 
 does "printf 'add T1\nemit N\nadd T2\nemit N\nremove 1\nemit N2\n' | br session count" 'added 1' "emitted $number $number $number made $number" 'added 2' 'removed 1' 'lines 6'
 does 'br asm hi hi.asm' 'assembled 133'
 does 'br run hi' hi 'exit 0 steps 15 undefined 0'
+does 'br asm X1 x1.asm' 'assembled 121'
+does 'br trace TX X1' hi 'exit 0 steps 8 undefined 0 edges 1'
+does 'br build NX X1 TX' "built 5 $number 8313"
+if cmp -s X1 "$top/crates/binrec/data/X1"; then pass; else fail 'x1.asm gives another file than crates/binrec/data/X1'; fi
 does 'br demo 1' "demo 1 file 137 blocks 7 code $number image $number out 588139be 588139be steps 15 $number"
 
 # The page has these commands and no other.
