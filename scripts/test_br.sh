@@ -248,7 +248,8 @@ descriptor_rows() {
 # An output that cannot be written is told, with a status of its own and no trace of Python.
 output_rows() {
     local words
-    for words in "9 $br --help" "9 $br --version" "4 $here/fits E" "4 $here/fits --help" "4 $here/coverage E T" "4 $here/coverage --help" "4 $here/graph E T" "4 $here/graph --help"; do
+    for words in "9 $br --help" "9 $br --version" "4 $here/fits E" "4 $here/fits --help" "4 $here/coverage E T" "4 $here/coverage --help" "4 $here/graph E T" "4 $here/graph --help" \
+        "4 $here/info E" "4 $here/info E T notes" "4 $here/info --original otherN" "4 $here/info --help" "4 $here/where otherN 01000000 other" "4 $here/where otherN 0 other" "4 $here/where --help"; do
         set -- $words
         if [ "${2##*/}" != br ] && [ "${2##*/}" != graph ] && ! command -v objdump > /dev/null; then
             skip "a failing output of ${2##*/}: no objdump"
@@ -264,6 +265,12 @@ output_rows() {
         "${@:2}" > /dev/full 2>&-
         [ $? = "$1" ] && pass || fail "a full output and a closed error: ${2##*/} $3"
     done
+    if command -v objdump > /dev/null; then
+        "$br" info E 2> got.err > /dev/full
+        judge 'a full output: br info' 4 '^info: standard output cannot be written: No space left' $? got.err
+        "$br" where otherN 01000000 other 2> got.err >&-
+        judge 'a closed output: br where' 4 '^where: standard output is closed$' $? got.err
+    fi
     "$br" --where run null 2> got.err >&-
     judge 'where it faulted, with a closed output' 5 '^fault access' $? got.err
     if grep -q Traceback got.err; then fail "where it faulted, with a closed output: $(cat got.err)"; else pass; fi
