@@ -312,12 +312,20 @@ pairs = sorted(set(struct.iter_unpack("<II", held[44:])) | set(zip(more[::2], mo
 open(sys.argv[1], "wb").write(held[:40] + struct.pack("<I", len(pairs)) + b"".join(struct.pack("<II", *p) for p in pairs))' "$@"
 }
 
+# The block that begins inside the first instruction of that program.
+inside='block 08048055
+  08048055 0100 add dword [eax], eax
+  08048057 0000 add byte [eax], al
+  08048059 e820000000 call 0x0804807e
+  to 0804807e known'
+
 # Traces that say what is not so, of a program with one function: the file does what the original does.
 false_rows() {
     local pair length
     executable G1 'b801000000 e820000000 50 b804000000 bb01000000 89e1 ba04000000 cd80 b801000000 bb00000000 cd80 81c0a67ec641 7802 f7d0 c3'
     row 'the program with one function' 0 'X\0201\0071\0276' 'exit 0 steps 15 undefined 0 edges 4\n' trace F0 G1
     row 'build of it' 0 '' 'built 7 1310 8329\n' build FN G1 F0
+    row 'its file' 0 'X\0201\0071\0276' 'exit 0 steps 184 undefined 0\n' run FN
     for pair in '0 0804807e' '08048055 0804807e' '08048059 08048086' '08048088 00000010'; do
         with_pairs F1 F0 $pair
         row "with the false pair $pair" 0 '' 'built 7 1310 8329\n' build N G1 F1
@@ -325,7 +333,7 @@ false_rows() {
     done
     with_pairs F1 F0 08048088 08048055
     "${tool[@]}" show G1 F1 > got.out 2> got.err
-    if [ "$(cat got.err)" = 'shown 8' ] && grep -q '^  08048055 0100 add dword \[eax\], eax$' got.out; then pass; else fail "show of a block inside an instruction: $(cat got.err)"; fi
+    if [ "$(cat got.err)" = 'shown 8' ] && [ "$(sed -n '/^block 08048055$/,/^block/p' got.out | sed '$d')" = "$inside" ]; then pass; else fail "show of a block inside an instruction: $(cat got.err got.out)"; fi
     "${tool[@]}" build N G1 F1 2> got.err
     row 'the file with a block inside an instruction' 0 'X\0201\0071\0276' 'exit 0 steps 186 undefined 0\n' run N
     for ((length = 0; length < 76; length++)); do
@@ -334,12 +342,18 @@ false_rows() {
     done
     { head -c 40 F0; bytes "$(word 2000000)"; } > F1
     row_keeping 'a count without its pairs' 2 '' 'refused word 3 23 44\n' build N G1 F1
-    executable many "$(for length in {1..40}; do printf '90%.0s' {1..63}; printf c3; done)"
+    executable returns "$(for length in {1..40}; do printf '90%.0s' {1..63}; printf c3; done)"
     python3 -c 'import struct, sys
 sites, starts = [0x08048054 + 64 * k + 63 for k in range(40)], range(0x08048054, 0x08048054 + 2560)
 sys.stdout.buffer.write(b"".join(struct.pack("<II", s, t) for s in sites for t in starts))' > targets
-    { trace_file head many 102400; cat head targets; } > F1
-    row_keeping 'targets of returns that would be too much code' 7 '' 'limit code 100663296\n' build N many F1
+    { trace_file head returns 102400; cat head targets; } > returns.t
+    row_keeping 'targets of returns that would be too much code' 7 '' 'limit code 100663296\n' build N returns returns.t
+    python3 -c 'import struct, sys
+sys.stdout.buffer.write(b"".join(struct.pack("<II", s, t) for s in range(0x00100000, 0x00100000 + 1000000) for t in (0x08048054, 0x0804807e)))' > targets
+    { trace_file head G1 2000000; cat head targets; } > F1
+    row 'a trace of pairs whose sites spell nothing' 0 '' 'built 0 5 8329\n' build N G1 F1
+    "${tool[@]}" build F1 G1 2> got.err
+    if cmp -s N F1; then pass; else fail 'pairs whose sites spell nothing make another file'; fi
     false_sessions
 }
 
@@ -452,6 +466,11 @@ session_rows() {
     input=/
     row 'a script that cannot be read' 3 '' 'outside input\n' session X1
     input=/dev/null
+    { head -c 4201 /dev/zero | tr '\0' a; head -c 100000 /dev/zero | tr '\0' '\n'; } > script
+    { "${tool[@]}" session X1 2> got.err; cat > got.left; } < script
+    if [ "$(cat got.err)" = 'refused line 1 31 0' ] && [ "$(wc -c < got.left)" -ge $((104201 - 8192)) ]; then pass; else fail "a long line: $(cat got.err), $(wc -c < got.left) bytes are left"; fi
+    tr '\0' a < /dev/zero | timeout 10 "${tool[@]}" session X1 2> got.err
+    if [ "${PIPESTATUS[1]}" = 2 ] && [ "$(cat got.err)" = 'refused line 1 31 0' ]; then pass; else fail "a line without an end: $(cat got.err)"; fi
     yes 'add T1' | head -n 4097 > script
     "${tool[@]}" session X1 < script > got.out 2> got.err
     if [ $? = 7 ] && [ "$(cat got.err)" = 'limit traces 4096' ] && [ "$(wc -l < got.out)" = 4096 ]; then pass; else fail "4097 traces: $(cat got.err)"; fi
@@ -465,6 +484,98 @@ session_rows() {
     yes 'add large' | head -n 9 > script
     "${tool[@]}" session X1 < script > got.out 2> got.err
     if [ $? = 7 ] && [ "$(cat got.err)" = 'limit edges 16777216' ] && [ "$(wc -l < got.out)" = 8 ]; then pass; else fail "too many edges in a session: $(cat got.err)"; fi
+}
+
+# NAME STATUS OUTPUT REPORT SCRIPT ORIGINAL: a session on the original, which must leave N as it is.
+session_keeping() {
+    printf '%b' "$5" > script
+    input=script
+    row_keeping "$1" "$2" "$3" "$4" session "$6"
+    input=/dev/null
+}
+
+# Every limit of every command that no row above passes, and what is just within it.
+limit_rows() {
+    local command length
+    cp X1 padded
+    for length in 16777216 16777217 268435456; do
+        truncate -s "$length" padded
+        row "run of a file of $length bytes" 0 'hi\n' 'exit 0 steps 8 undefined 0\n' run padded
+    done
+    truncate -s 268435457 padded
+    row 'run of a file over its limit' 7 '' 'limit file 268435456\n' run padded
+    row 'run with steps of a file over its limit' 7 '' 'limit file 268435456\n' run --steps 1 padded
+    truncate -s 16777216 padded
+    row 'build of a file of 16777216 bytes' 0 '' 'built 0 5 8313\n' build N padded
+    rm -f padded
+    row_keeping 'a traced file over the limit, with steps' 7 '' 'limit file 16777216\n' trace --steps 9 N long
+    row_keeping 'merge for a file over the limit' 7 '' 'limit file 16777216\n' merge N long T1
+    row 'show of a file over the limit' 7 '' 'limit file 16777216\n' show long T1
+    row 'a session on a file over the limit' 7 '' 'limit file 16777216\n' session long
+    row_keeping 'build with a trace over the limit' 7 '' 'limit file 16777216\n' build N X1 T1 long
+    row 'show with a trace over the limit' 7 '' 'limit file 16777216\n' show X1 T1 long
+    union_rows
+    graph_rows
+    [ -e large ] || return 0
+    row_keeping 'build with too many edges in all' 7 '' 'limit edges 16777216\n' build N X1 $(yes large | head -n 9)
+    row 'show of too many edges in all' 7 '' 'limit edges 16777216\n' show X1 $(yes large | head -n 9)
+    row_keeping 'merge of as many edges as there may be in all' 0 '' 'merged 2000000\n' merge T6 X1 $(yes large | head -n 8)
+    rm -f T6
+}
+
+# FILE N: an executable with a second, empty header whose code is a RET and N jumps, each back to what stands before it; and beside it FILE.t, a trace by
+# which the RET leads to the last jump and each jump was taken.
+jumps_back() {
+    python3 -c 'import hashlib, struct, sys
+name, count, start = sys.argv[1], int(sys.argv[2]), 0x08048074
+code = b"\xc3\xeb\xfd" + b"\xeb\xfc" * (count - 1)
+size = 116 + len(code)
+head = b"\x7fELF\1\1\1".ljust(16, b"\0") + struct.pack("<HHIIIIIHHHHHH", 2, 3, 1, start, 52, 0, 0, 52, 32, 2, 0, 0, 0)
+file = head + struct.pack("<8I", 1, 0, start - 116, start - 116, size, size, 5, 4096).ljust(64, b"\0") + code
+places = [start] + [start + 1 + 2 * k for k in range(count)]
+pairs = [(0, start), (start, places[-1])] + list(zip(places[1:], places))
+open(name, "wb").write(file)
+open(name + ".t", "wb").write(b"BRTRACE1" + hashlib.sha256(file).digest() + struct.pack("<I", len(pairs)) + b"".join(struct.pack("<II", *p) for p in pairs))' "$@"
+}
+
+# 2000000 jumps, each to what follows it: with the edge of the entry one more than a trace may have.
+union_rows() {
+    python3 -c 'import struct, sys
+code, start = b"\xeb\0" * 2000000, 0x08048000
+size = 84 + len(code)
+head = b"\x7fELF\1\1\1".ljust(16, b"\0") + struct.pack("<HHIIIIIHHHHHH", 2, 3, 1, start + 84, 52, 0, 0, 52, 32, 1, 0, 0, 0)
+sys.stdout.buffer.write(head + struct.pack("<8I", 1, 0, start, start, size, size, 5, 4096) + code)' > jumps
+    row_keeping 'a trace with too many edges' 7 '' 'limit union 2000000\n' trace N jumps
+    row_keeping 'a trace with too many edges at its last step' 7 '' 'limit union 2000000\n' trace --steps 2000000 N jumps
+    row 'a trace with as many edges as it may have' 6 '' 'budget steps 1999999 undefined 0 edges 2000000\n' trace --steps 1999999 T6 jumps
+    if [ "$(wc -c < T6)" = 16000044 ]; then pass; else fail 'a trace with as many edges as it may have: another length'; fi
+    trace_file T5 jumps 1 1 0
+    row_keeping 'merge of one edge more' 7 '' 'limit union 2000000\n' merge N jumps T6 T5
+    row_keeping 'merge of one edge more, the other way round' 7 '' 'limit union 2000000\n' merge N jumps T5 T6
+    row 'merge of just as many' 0 '' 'merged 2000000\n' merge T7 jumps T6 T6
+    if cmp -s T6 T7; then pass; else fail 'merge of just as many: another file'; fi
+    rm -f jumps T5 T6 T7
+}
+
+# As many blocks as there may be, and one more; and too much code: by each command that makes a graph, and in a session whose earlier files stay.
+graph_rows() {
+    jumps_back most 65535
+    jumps_back more 65536
+    row 'build of 65536 blocks' 0 '' 'built 65536 327967 467059\n' build N most most.t
+    cp N N5
+    session_keeping 'a session with 65536 blocks' 0 'added 1\nemitted 65536 327967 467059 made 65536\n' 'lines 2\n' 'add most.t\nemit N4\n' most
+    if cmp -s N4 N5; then pass; else fail 'a session with 65536 blocks: another file'; fi
+    row_keeping 'build of 65537 blocks' 7 '' 'limit blocks 65536\n' build N more more.t
+    row 'show of 65537 blocks' 7 '' 'limit blocks 65536\n' show more more.t
+    rm -f N4
+    session_keeping 'a session with 65537 blocks' 7 'emitted 0 5 139381 made 0\nadded 1\n' 'limit blocks 65536\n' 'emit N4\nadd more.t\nemit N\nemit N4\n' more
+    "${tool[@]}" build N5 more 2> /dev/null
+    if cmp -s N4 N5; then pass; else fail 'a session with 65537 blocks: the earlier file did not stay'; fi
+    rm -f N4
+    session_keeping 'a session with too much code' 7 'emitted 0 5 10836 made 0\nadded 1\n' 'limit code 100663296\n' 'emit N4\nadd returns.t\nemit N\nemit N4\n' returns
+    "${tool[@]}" build N5 returns 2> /dev/null
+    if cmp -s N4 N5; then pass; else fail 'a session with too much code: the earlier file did not stay'; fi
+    rm -f most most.t more more.t returns returns.t N4 N5
 }
 
 # hi and status 0 on the processor or its emulator.
@@ -522,6 +633,7 @@ if expects demo; then
 fi
 if expects session; then
     session_rows
+    limit_rows
 fi
 if expects asm; then
     asm_rows
