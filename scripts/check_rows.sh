@@ -486,6 +486,44 @@ session_rows() {
     if [ $? = 7 ] && [ "$(cat got.err)" = 'limit edges 16777216' ] && [ "$(wc -l < got.out)" = 8 ]; then pass; else fail "too many edges in a session: $(cat got.err)"; fi
 }
 
+# NAME STORED WORD..: with a full output status 3, which is told; the file STORED is that of X1 without traces, or nothing is stored (`-`).
+full_output() {
+    local name=$1 stored=$2
+    shift 2
+    rm -f N N4
+    "${tool[@]}" "$@" < "$input" > /dev/full 2> got.err
+    if [ $? = 3 ] && [ "$(cat got.err)" = 'outside output' ]; then pass; else fail "$name on a full output: $(cat got.err)"; fi
+    if if [ "$stored" = - ]; then [ ! -e N ] && [ ! -e N4 ]; else cmp -s "$stored" N1; fi; then pass; else fail "$name on a full output: its file"; fi
+}
+
+# NAME USUAL WORD..: with a full report all is done, and N is as USUAL.
+full_report() {
+    local name=$1 usual=$2
+    shift 2
+    rm -f N
+    "${tool[@]}" "$@" < "$input" > got.out 2> /dev/full
+    if [ $? = 3 ] && cmp -s N "$usual"; then pass; else fail "$name with a full report"; fi
+}
+
+full_rows() {
+    [ -w /dev/full ] || { skip 'a full output and a full report: no /dev/full'; return; }
+    full_output trace - trace N X1
+    full_output show - show X1 T1
+    printf 'add T1\nemit N\n' > script
+    input=script
+    full_output 'a session that adds' - session X1
+    printf 'emit N4\nemit N\n' > script
+    full_output 'a session that emits' N4 session X1
+    if [ ! -e N ]; then pass; else fail 'a session that emits on a full output goes on'; fi
+    printf 'add T1\nemit N\n' > script
+    full_report session N2 session X1
+    input=/dev/null
+    full_report build N2 build N X1 T1
+    full_report trace T1 trace N X1
+    full_report merge T1 merge N X1 T1 T1
+    rm -f N N4
+}
+
 # NAME STATUS OUTPUT REPORT SCRIPT ORIGINAL: a session on the original, which must leave N as it is.
 session_keeping() {
     printf '%b' "$5" > script
@@ -633,6 +671,7 @@ if expects demo; then
 fi
 if expects session; then
     session_rows
+    full_rows
     limit_rows
 fi
 if expects asm; then
