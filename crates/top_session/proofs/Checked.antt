@@ -1,6 +1,7 @@
 -- What the calls on a session answer, as checks of a plan.
-use Rattle.std.proofs.Common.{◌≡◌, ◌+◌, nat_le, nat_lt, ℕ, Bool, true, false, cond, List, length, Option, Some, None, Result, Ok, Err, refl, sym, ◌∙◌, ap, subst}
+use Rattle.std.proofs.Common.{◌≡◌, ◌+◌, ◌<◌, ◌≤◌, nat_le, nat_lt, ℕ, Bool, true, false, cond, List, length, Option, Some, None, Result, Ok, Err, refl, sym, ◌∙◌, ap, subst, arith}
 use Rattle.std.proofs.lemmas.Bool.{cond-true, cond-false}
+use Rattle.std.proofs.lemmas.Bool.Decides.{nat_tests}
 use Rattle.trace_file.specs.Edges.{Edge, pairs}
 use Rattle.trace_set.specs.declared.error.SetError.{SetError}
 use Rattle.trace_set.specs.declared.error.SetError.TheVariants as refusals
@@ -61,6 +62,41 @@ too_long ts new es e same answer =
     let Q : SetError → Type 0 = λ e. Adds ts es (Err e) new in
     let so : Adds ts es (Err refusals.Edges) new = subst Q same answer in
     subst P so.0 (added_is ts es)
+
+-- what a refusal for want of a number says of the next number
+abbrev IsPast : ℕ → Option SetError → Type 0
+IsPast next None = Unit {0}
+IsPast next (Some refusals.Traces) = Unit {0}
+IsPast next (Some refusals.Edges) = Unit {0}
+IsPast next (Some refusals.Spent) = nat_lt 1048576 next ≡ true
+IsPast next (Some refusals.Memory) = Unit {0}
+
+past_is : (ts : Traces) (es : List Edge) → IsPast ts.next (refusal ts es)
+past_is ts es = by_count (nat_le 4096 (length ts.traces))
+  where
+    by_next : (b : Bool) → nat_lt 1048576 ts.next ≡ b → IsPast ts.next (cond b (Some refusals.Spent) None)
+    by_next true is = is
+    by_next false is = tt
+
+    by_pairs : (b : Bool) → IsPast ts.next (cond b (Some refusals.Edges) (cond (nat_lt 1048576 ts.next) (Some refusals.Spent) None))
+    by_pairs true = tt
+    by_pairs false = by_next (nat_lt 1048576 ts.next) refl
+
+    by_count : (b : Bool) → IsPast ts.next (cond b (Some refusals.Traces) (cond (nat_lt 16777216 (pairs (sets_of ts.traces) + length es)) (Some refusals.Edges) (cond (nat_lt 1048576 ts.next) (Some refusals.Spent) None)))
+    by_count true = tt
+    by_count false = by_pairs (nat_lt 16777216 (pairs (sets_of ts.traces) + length es))
+
+less : (a b : ℕ) → nat_lt a b ≡ true → a < b
+less a b h = grind (arith, nat_tests)
+
+-- while at most as many numbers were given as a script has lines, one is left
+pub not_spent : (ts new : Traces) (es : List Edge) (e : SetError) → ts.next ≤ 1048576 → e ≡ refusals.Spent → Adds ts es (Err e) new → ⊥
+not_spent ts new es e few same answer =
+    let Q : SetError → Type 0 = λ e. Adds ts es (Err e) new in
+    let so : Adds ts es (Err refusals.Spent) new = subst Q same answer in
+    let past : nat_lt 1048576 ts.next ≡ true = subst (IsPast ts.next) so.0 (past_is ts es) in
+    let more = less 1048576 ts.next past in
+    omega arith
 
 -- ---- a trace that is taken away
 

@@ -71,7 +71,8 @@ fn add_edges(session: &mut Session<()>, edges: &Edges) -> Result<u32, Halt>
         Ok(number) => Ok(number),
         Err(SetError::Traces) => Err(Halt::Because(Cause::Limited(Limit::Traces(TRACE_LIMIT)))),
         Err(SetError::Edges) => Err(Halt::Because(Cause::Limited(Limit::Edges(EDGE_LIMIT)))),
-        Err(SetError::Spent) | Err(SetError::Memory) => Err(Halt::Memory),
+        Err(SetError::Spent) => unreachable!(),
+        Err(SetError::Memory) => Err(Halt::Memory),
     }
 }
 
