@@ -2,7 +2,12 @@
 mod arguments;
 mod build;
 mod demo;
+mod each_failure;
+mod failing_builds;
+mod failing_runs;
+mod failing_sessions;
 mod listings;
+mod outcome;
 mod refusals;
 mod run;
 mod session;
