@@ -1,5 +1,5 @@
 -- Pieces of memory that are lent: each lies in one page.
-use Rattle.std.specs.Prelude.{ℕ, ◌-◌, ◌%◌, min, if◌then◌else◌, List, [], ◌∷◌, length, take}
+use Rattle.std.specs.Prelude.{ℕ, ◌+◌, ◌-◌, ◌%◌, nat_le, min, if◌then◌else◌, List, [], ◌∷◌, length, take}
 use Rattle.br_word.specs.Memory.{Region, Writes, put_over}
 use Rattle.guest_mem.specs.Layout.{is_usable}
 use Rattle.guest_mem.specs.View.{MemoryView}
@@ -7,6 +7,10 @@ use Rattle.guest_mem.specs.View.{MemoryView}
 -- as many of len bytes at an address as lie in its page
 abbrev pub piece_size : ℕ → ℕ → ℕ
 piece_size at len = min len (4096 - at % 4096)
+
+-- the bytes at an address, where they lie in one page, and else none
+abbrev pub in_page : ℕ → List ℕ → List ℕ
+in_page at bytes = if nat_le (at % 4096 + length bytes) 4096 then bytes else []
 
 -- the bytes of a region from an address to the end of its page
 abbrev pub page_rest : ℕ → Region → ℕ

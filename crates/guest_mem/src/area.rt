@@ -162,7 +162,7 @@ impl Model for Area {
 }
 
 impl Area {
-    ghost use Rattle.guest_mem.specs.Pieces.{piece_size};
+    ghost use Rattle.guest_mem.specs.Pieces.{piece_size, in_page};
     ghost use Rattle.guest_mem.specs.Lent.{LendsPiece};
 
     /// A region of zeros.
@@ -257,7 +257,21 @@ impl Area {
         bytes_from(&self.pages[number], from, count)
     }
 
-    /// The same bytes, to be written.
+    /// The bytes from an address to the end, the first `most` of them at most, where they lie in one page, and else none.
+    pub fn front(&self, at: u32, most: usize) -> &[u8]
+        requires some { 0 < most }
+        requires inside { covers self.now at 1 ≡ true }
+        ensures { result.now ≡ in_page at (take most (drop (at - self.now.start) self.now.bytes)) }
+    {
+        let at_byte = at as usize;
+        let count = self.left(at).min(most);
+        if count > 4096 - at_byte % 4096 {
+            return &[];
+        }
+        self.piece(at_byte, count)
+    }
+
+    /// The bytes that [`piece`](Area::piece) lends, to be written.
     pub fn piece_mut(&mut self, at: usize, len: usize) -> &mut [u8]
         requires some { 0 < len }
         requires inside { covers self.old at len ≡ true }

@@ -44,7 +44,7 @@ impl Model for Memory {
 }
 
 impl Memory {
-    ghost use Rattle.guest_mem.specs.Pieces.{piece_size};
+    ghost use Rattle.guest_mem.specs.Pieces.{piece_size, in_page};
     ghost use Rattle.guest_mem.specs.Lent.{LendsMemory};
 
     /// The memory in which a guest begins. The stack ends with `top`, of at most [`STACK_SIZE`] bytes, and is
@@ -154,6 +154,17 @@ impl Memory {
                 area.copy_out(at as usize, &mut into[..count]);
                 count as u8
             }
+        }
+    }
+
+    /// The bytes that [`fetch`](Memory::fetch) gives, lent, where they lie in one page: between two multiples of 4096. Else,
+    /// and where no executable region holds the address, there are none.
+    pub fn code(&self, at: u32) -> &[u8]
+        ensures { result.now ≡ in_page at (fetched (bytes_at Runs at 1 self.now.regions)) }
+    {
+        match self.code_place(at) {
+            None => &[],
+            Some(place) => self.areas[place].front(at, INSTRUCTION_LIMIT),
         }
     }
 

@@ -264,6 +264,23 @@ fn begins_before_a_border(rt: HostRuntime) -> Result<(), Fail> {
 }
 
 #[test]
+fn lends_code_in_one_page(rt: HostRuntime) -> Result<(), Fail> {
+    let memory = Memory::of(rt.alloc(), &border_guest(rt.alloc())?, &[])?;
+    assert_eq!(rt; memory.code(0x0804_8FFE), [].as_slice());
+    assert_eq!(rt; memory.code(0x0804_8FFF), [].as_slice());
+    assert_eq!(rt;
+        memory.code(0x0804_9000),
+        [0xC0, 1, 2, 3, 4, 0xC3, 0, 0, 0, 0, 0, 0, 0, 0, 0].as_slice()
+    );
+    assert_eq!(rt; memory.code(0x0804_9FF1).len(), 15);
+    assert_eq!(rt; memory.code(0x0804_9FF2).len(), 0);
+    assert_eq!(rt; memory.code(0x0804_A001), [0, 0].as_slice());
+    assert_eq!(rt; memory.code(0x0804_A003), [].as_slice());
+    assert_eq!(rt; memory.code(0xBFF0_0000), [].as_slice());
+    Ok(())
+}
+
+#[test]
 fn shows_zeros_after_a_fall(rt: HostRuntime) -> Result<(), Fail> {
     let mut memory = Memory::of(rt.alloc(), &guest(rt.alloc())?, &[])?;
     assert_eq!(rt; memory.set_break(0x0804_C000)?, 0x0804_C000);
