@@ -74,6 +74,7 @@ fn edge(inst: &Inst, from: u32, to: u32) -> Option<(u32, u32)>
 
 /// The system call of an instruction at `at`, with eip behind it. After a fault and after an error
 /// eip is `at` again.
+#[inline(never)]
 fn trap<I: Source, O: Sink, E: Sink>(
     alloc: Global,
     at: u32,
@@ -130,8 +131,9 @@ fn carry_out<I: Source, O: Sink, E: Sink>(
     }
 }
 
-/// Takes the step of a guest that runs.
-pub fn advance<I: Source, O: Sink, E: Sink>(
+/// Takes the step of a guest that runs, whose bytes at eip do not lie in one page.
+#[inline(never)]
+fn advance_over_border<I: Source, O: Sink, E: Sink>(
     alloc: Global,
     cpu: &mut Cpu,
     memory: &mut Memory,
@@ -151,5 +153,33 @@ pub fn advance<I: Source, O: Sink, E: Sink>(
         Code::Inst(inst, len) => {
             carry_out(alloc, &inst, len, cpu, memory, choice, input, out, err)
         }
+    }
+}
+
+/// Takes the step of a guest that runs.
+pub fn advance<I: Source, O: Sink, E: Sink>(
+    alloc: Global,
+    cpu: &mut Cpu,
+    memory: &mut Memory,
+    choice: u8,
+    input: &mut I,
+    out: &mut O,
+    err: &mut E,
+) -> Result<Advanced, SysError>
+    requires { cpu.old.undefined < 2 ^ 64 - 1 }
+    ensures { Advance (found cpu.old.eip memory.old.regions) result choice
+        (machine cpu.old memory.old (I.seen input.old) (O.seen out.old) (E.seen err.old))
+        (machine cpu.new memory.new (I.seen input.new) (O.seen out.new) (E.seen err.new)) }
+{
+    fifteen_bytes_decide();
+    let bytes = memory.code(cpu.eip);
+    let count = bytes.len();
+    if count == 0 {
+        return advance_over_border(alloc, cpu, memory, choice, input, out, err);
+    }
+    let found = decode(bytes);
+    match &found {
+        None => Ok(faulted(GuestFault::Illegal(cpu.eip))),
+        Some((inst, len)) => carry_out(alloc, inst, *len, cpu, memory, choice, input, out, err),
     }
 }
