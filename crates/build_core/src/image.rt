@@ -4,12 +4,9 @@ ghost use Rattle.elf_read.specs.Elf.{IsGuest, IsOriginal};
 ghost use Rattle.flow_graph.specs.declared.error.TheConstants.{MAX_BLOCKS};
 ghost use Rattle.flow_graph.specs.GraphOf.{graph_of};
 ghost use Rattle.code_layout.specs.declared.built.BuildError.TheVariants.{Blocks, Code, Memory};
-ghost use Rattle.code_layout.specs.Keys.{keys_of};
 ghost use Rattle.code_layout.specs.Image.{built_of, HasTooManyBlocks, IsTooLong};
-ghost use Rattle.code_layout.specs.Layout.{layout_of};
 
-use crate::laid::layout_of;
-use code_layout::{BuildError, Built, Layout, keys_are_keys, keys_of, layout_links};
+use code_layout::{BuildError, Built, keys_are_keys, laid_out, layouts_build};
 use elf_read::Exe;
 use flow_graph::{Graph, GraphError, one_graph};
 use std::alloc::Global;
@@ -34,32 +31,6 @@ fn graph_of(alloc: Global, exe: &Exe, edges: &Edges) -> Result<Graph, BuildError
     }
 }
 
-/// The layout of the fragments of all blocks of the graph of an original and edges.
-///
-/// Errors: [`BuildError::Code`] where the code would be longer than [`MAX_CODE`](code_layout::MAX_CODE), and
-/// [`BuildError::Memory`] for want of memory.
-fn laid_out(
-    alloc: Global,
-    exe: &Exe,
-    edges: &Edges,
-    graph: &Graph,
-) -> Result<Layout<()>, BuildError>
-    requires original { IsOriginal exe.now }
-    requires graph { graph.now.nodes ≡ graph_of exe.now edges.now }
-    requires few { length graph.now.nodes ≤ MAX_BLOCKS }
-    ensures layout { IfOk result (λ l. l ≡ layout_of exe.now (keys_of exe.now edges.now)) }
-    ensures short { IfOk result (λ l. IsTooLong exe.now edges.now → ⊥) }
-    ensures long { IfErr result (λ e. e ≡ Code → IsTooLong exe.now edges.now) }
-    ensures blocks { IfErr result (λ e. e ≡ Blocks → ⊥) }
-{
-    layout_links();
-    keys_are_keys();
-    let _in_order = edges.len();
-    let known = graph.index_of(exe.entry).is_some();
-    let keys = keys_of(alloc, exe, graph)?;
-    layout_of(alloc, exe, known, keys.as_slice())
-}
-
 /// Writes the file for an original and edges: the recovered code of the blocks of their graph, a private segment, and the original's
 /// segments at their addresses.
 ///
@@ -74,7 +45,7 @@ pub fn build(alloc: Global, exe: &Exe, edges: &Edges) -> Result<Built, BuildErro
     ensures blocks { IfErr result (λ e. e ≡ Blocks → HasTooManyBlocks exe.now edges.now) }
     ensures code { IfErr result (λ e. e ≡ Code → (HasTooManyBlocks exe.now edges.now → ⊥) × IsTooLong exe.now edges.now) }
 {
-    layout_links();
+    layouts_build();
     keys_are_keys();
     let graph = graph_of(alloc, exe, edges)?;
     let layout = laid_out(alloc, exe, edges, &graph)?;

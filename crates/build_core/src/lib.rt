@@ -2,7 +2,6 @@
 #![tactic(auto)]
 
 mod image;
-mod laid;
 mod law;
 
 pub use image::build;

@@ -15,3 +15,4 @@ mod NextKeys
 mod Builds
 pub mod LiveRows
 pub mod ShortCode
+mod Outward

@@ -1,5 +1,5 @@
 -- A layout: fragments that were added one behind another, and their code once the distances between them are filled in.
-use Rattle.std.specs.Prelude.{◌≡◌, ℕ, ◌+◌, ◌≤◌, ◌==◌, Bool, true, false, if◌then◌else◌, List, [], ◌∷◌, ◌++◌, length, take, drop, map, All}
+use Rattle.std.specs.Prelude.{◌≡◌, ℕ, ◌+◌, ◌≤◌, ◌==◌, Bool, true, false, if◌then◌else◌, not, List, [], ◌∷◌, ◌++◌, length, take, drop, map, filter, flat_map, All}
 use Rattle.std.specs.List.Sorted.{IsStrictlyIncreasing}
 use Rattle.br_word.specs.Memory.{bytes_of}
 use Rattle.elf_read.specs.declared.exe.Exe.{Exe}
@@ -88,6 +88,24 @@ unfoldable pub layout_code : (ℕ → ℕ) → LayoutView → List ℕ
 layout_code out v =
     let goes = goes_out (added_at (added_from v) v.added) out in
     filled_code goes CODE_START (entry_code v) ++ filled_from goes (added_from v) v.added
+
+-- ---- where its parts stand, and where its jumps leave it
+
+-- each start with the address of its fragment, where these stand one behind another from an address on
+abbrev pub added_places : ℕ → List Added → List (ℕ × ℕ)
+added_places at [] = []
+added_places at (a ∷ more) = (a.start, at) ∷ added_places (at + length a.code.bytes) more
+
+abbrev pub layout_places : LayoutView → List (ℕ × ℕ)
+layout_places v = added_places (added_from v) v.added
+
+-- the addresses of the original to which the jumps of code lead
+abbrev pub fixes_out : List Fix → List ℕ
+fixes_out fixes = map (λ (f : Fix). f.target) (filter (λ (f : Fix). not f.known) fixes)
+
+-- those of a layout, in the order of its jumps
+abbrev pub layout_outs : LayoutView → List ℕ
+layout_outs v = fixes_out (entry_code v).fixes ++ flat_map (λ (a : Added). fixes_out a.code.fixes) v.added
 
 -- ---- what is asked of it
 

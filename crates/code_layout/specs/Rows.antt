@@ -69,6 +69,10 @@ abbrev pub row_address : List Row → ℕ → ℕ
 row_address [] y = 0
 row_address (r ∷ rows) y = if r.start == y then (CODE_START + r.at) else row_address rows y
 
+-- each start with that address
+abbrev pub row_places : List Row → List (ℕ × ℕ)
+row_places rows = map (λ (r : Row). (r.start, CODE_START + r.at)) rows
+
 -- a fix lies in code of so many bytes, and where it goes to a block, that one has a row
 pub record IsFillable (rows : List Row) (count : ℕ) (f : Fix) : Type 0 where
   pub inside : f.at + 4 ≤ count

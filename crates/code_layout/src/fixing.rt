@@ -1,11 +1,11 @@
 //! The distances of fixes are filled in.
-ghost use Rattle.std.specs.Prelude.{◌≡◌, ◌+◌, ◌++◌, ◌<◌, ◌≤◌, ◌^◌, All, OnOk, map, length, true};
+ghost use Rattle.std.specs.Prelude.{◌≡◌, ◌+◌, ◌++◌, ◌<◌, ◌≤◌, ◌^◌, All, IfOk, OnOk, map, length, true};
 ghost use Rattle.std.specs.List.Sorted.{IsStrictlyIncreasing};
 ghost use Rattle.block_make.specs.declared.fragment.Fix.{Fix};
 ghost use Rattle.block_cut.specs.Transfers.{is_among};
 ghost use Rattle.ia_encode.specs.Items.{distance};
 ghost use Rattle.code_layout.specs.Linked.{goes_out};
-ghost use Rattle.code_layout.specs.Layout.{with_word, dest_of_fix, filled};
+ghost use Rattle.code_layout.specs.Layout.{with_word, dest_of_fix, filled, fixes_out};
 ghost use Rattle.code_layout.specs.Places.{place_in};
 ghost use Rattle.code_layout.specs.Rows.{row_starts, row_address, forth, IsFillable};
 
@@ -13,7 +13,7 @@ use crate::place::CODE_START;
 use crate::places::Places;
 use crate::rows::{Row, address_of};
 use block_make::Fix;
-use std::alloc::AllocError;
+use std::alloc::{AllocError, Global};
 
 /// Appends fixes of code that stands at an offset.
 pub fn push_fixes(out: &mut Vec<Fix>, at: u32, fixes: &[Fix]) -> Result<(), AllocError>
@@ -30,8 +30,21 @@ pub fn push_fixes(out: &mut Vec<Fix>, at: u32, fixes: &[Fix]) -> Result<(), Allo
     Ok(())
 }
 
+/// The targets of the fixes that lead to the original, in their order. An error comes for want of memory.
+pub fn fixes_out(alloc: Global, fixes: &[Fix]) -> Result<Vec<u32>, AllocError>
+    ensures { IfOk result (λ v. v.items ≡ fixes_out fixes.now) }
+{
+    let mut outs = Vec::new(alloc);
+    for fix in fixes {
+        if !fix.known {
+            outs.push(fix.target)?;
+        }
+    }
+    Ok(outs)
+}
+
 /// Puts a word over four bytes, the lowest byte first.
-fn put_word(code: &mut [u8], at: usize, word: u32)
+pub fn put_word(code: &mut [u8], at: usize, word: u32)
     requires { at + 4 ≤ length code.old }
     ensures { code.new ≡ with_word at word code.old }
 {

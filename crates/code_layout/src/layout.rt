@@ -1,12 +1,12 @@
 //! Layouts: fragments one behind another, and their code once it is whole.
 use crate::emitted::Emitted;
 use crate::error::LayoutError;
-use crate::fixing::fill;
+use crate::fixing::{fill, fixes_out};
 use crate::image::written;
 use crate::parts::{append, entry_piece};
 use crate::place::MAX_CODE;
 use crate::places::Places;
-use crate::rows::Row;
+use crate::rows::{Row, places_of};
 use block_make::{Fix, Fragment, assemble};
 use elf_read::Exe;
 use std::alloc::{AllocError, Global};
@@ -46,7 +46,7 @@ impl<L> Layout<L> {
     ghost use Rattle.flow_graph.specs.declared.error.TheConstants.{MAX_BLOCKS};
     ghost use Rattle.block_make.specs.declared.fragment.Fix.{Fix};
     ghost use Rattle.code_layout.specs.declared.error.LayoutError.TheVariants.{TooLong, Memory};
-    ghost use Rattle.code_layout.specs.Layout.{Added, IsWhole, code_length, layout_code, built_by, with_added};
+    ghost use Rattle.code_layout.specs.Layout.{Added, IsWhole, code_length, layout_code, layout_places, layout_outs, built_by, with_added};
     ghost use Rattle.code_layout.specs.Places.{place_in};
 
     /// The layout of the code at an entry, an address of the original, and no fragment yet. Where `known` is true, a block starts at
@@ -98,6 +98,34 @@ impl<L> Layout<L> {
             Err(_) => return Err(LayoutError::Memory),
         }
         Ok(())
+    }
+
+    /// How many bytes of code it has. The layout is not spent.
+    pub fn len(&self) -> u32
+        requires fresh { self.now.spent ≡ false }
+        ensures { result ≡ code_length self.now }
+    {
+        self.code.len() as u32
+    }
+
+    /// Where its fragments stand: the address of each, by the start of its block. The layout is not spent.
+    ///
+    /// An error comes only for want of memory.
+    pub fn places(&self, alloc: Global) -> Result<Places, AllocError>
+        requires fresh { self.now.spent ≡ false }
+        ensures { IfOk result (λ p. p ≡ layout_places self.now) }
+    {
+        Ok(Places::of(places_of(alloc, self.rows.as_slice())?))
+    }
+
+    /// The addresses of the original to which its jumps lead, in the order of the jumps. The layout is not spent.
+    ///
+    /// An error comes only for want of memory.
+    pub fn outs(&self, alloc: Global) -> Result<Vec<u32>, AllocError>
+        requires fresh { self.now.spent ≡ false }
+        ensures { IfOk result (λ v. v.items ≡ layout_outs self.now) }
+    {
+        fixes_out(alloc, self.fixes.as_slice())
     }
 
     /// The distances are filled in, and this is the code, at [`CODE_START`](crate::CODE_START). An address of the original lies where

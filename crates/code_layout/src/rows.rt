@@ -1,10 +1,11 @@
 //! Where fragments stand in the code of a layout.
-ghost use Rattle.std.specs.Prelude.{◌≡◌, ℕ, ◌+◌, ◌<◌, ◌≤◌, ◌^◌, All, map, length, true, slice_index_or};
+ghost use Rattle.std.specs.Prelude.{◌≡◌, ℕ, ◌+◌, ◌<◌, ◌≤◌, ◌^◌, All, IfOk, map, length, true, slice_index_or};
 ghost use Rattle.std.specs.List.Sorted.{IsStrictlyIncreasing};
 ghost use Rattle.block_cut.specs.Transfers.{is_among};
-ghost use Rattle.code_layout.specs.Rows.{row_starts, row_address};
+ghost use Rattle.code_layout.specs.Rows.{row_starts, row_address, row_places};
 
 use crate::place::CODE_START;
+use std::alloc::{AllocError, Global};
 
 /// A fragment in the code: the start of its block, and where its bytes and its fixes stand.
 #[derive(Clone, Copy)]
@@ -50,4 +51,16 @@ pub fn address_of(rows: &[Row], start: u32) -> u32
     ensures { result ≡ row_address rows.now start }
 {
     CODE_START + rows[first_from(rows, start)].at
+}
+
+/// The address of the fragment of each row, by its start. An error comes for want of memory.
+pub fn places_of(alloc: Global, rows: &[Row]) -> Result<Vec<(u32, u32)>, AllocError>
+    requires low { All (λ (r : Row). CODE_START + r.at < 2 ^ 32) rows.now }
+    ensures { IfOk result (λ v. v.items ≡ row_places rows.now) }
+{
+    let mut places = Vec::with_capacity(alloc, rows.len())?;
+    for row in rows {
+        places.push((row.start, CODE_START + row.at))?;
+    }
+    Ok(places)
 }

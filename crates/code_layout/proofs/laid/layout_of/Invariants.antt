@@ -1,7 +1,7 @@
 use Rattle.std.proofs.Common.{◌≡◌, ◌≤◌, false, ◌++◌, drop}
 use Rattle.code_layout.specs.declared.place.TheConstants.{MAX_CODE}
 use Rattle.code_layout.specs.Layout.{code_length, added_of}
-use Rattle.build_core.proofs.laid.layout_of.Given as goal
+use Rattle.code_layout.proofs.laid.layout_of.Given as goal
 
 abbrev pub invariant-loop-key : goal.invariant-loop-key
 invariant-loop-key l = record {

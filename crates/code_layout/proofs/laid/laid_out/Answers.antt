@@ -1,4 +1,4 @@
-use Rattle.std.proofs.Common.{◌≡◌, ◌<◌, ◌≤◌, ℕ, List, length, map, sym, ap, ◌∙◌, subst}
+use Rattle.std.proofs.Common.{◌≡◌, ◌<◌, ◌≤◌, List, Result, Ok, Err, IfOk, length, map, sym, ap, ◌∙◌, subst, arith}
 use Rattle.std.specs.List.Sorted.{IsStrictlyIncreasing}
 use Rattle.std.proofs.lemmas.List.Elements.{All-same}
 use Rattle.std.proofs.lemmas.Result.{IfErr-weaker}
@@ -12,9 +12,12 @@ use Rattle.code_layout.specs.Keys.{keys_of}
 use Rattle.code_layout.specs.Linked.{has_key}
 use Rattle.code_layout.specs.Image.{IsTooLong}
 use Rattle.code_layout.specs.Layout.{IsWhole, code_length, layout_of}
-use Rattle.build_core.proofs.Known.{known_is, key_there}
-use Rattle.build_core.proofs.WholeCode.{both, is_short, is_long}
-use Rattle.build_core.proofs.image.laid_out.Goals as goal
+use Rattle.code_layout.proofs.laid.laid_out.Goals as goal
+
+-- what is known of a value by two clauses
+both : {X Y : Type 0} (r : Result X Y) (P Q R : X → Type 0) → ((x : X) → P x → Q x → R x) → IfOk r P → IfOk r Q → IfOk r R
+both (Ok x) P Q R f p q = f x p q
+both (Err e) P Q R f p q = tt
 
 pub keys_of-requires-clause-guest : goal.keys_of-requires-clause-guest
 keys_of-requires-clause-guest c = original_is_guest c.args.exe.now c.requires.original
@@ -29,9 +32,7 @@ pub layout_of-requires-clause-entry : goal.layout_of-requires-clause-entry
 layout_of-requires-clause-entry c =
     let exe = c.args.exe.now in
     let keys = c.as_slice.ensures.value ∙ c.in_ok-keys.ensures c.args.edges.now c.requires.graph in
-    c.is_some-known.ensures
-    ∙ known_is exe.entry c.args.graph.now.nodes c.index_of.result c.index_of.ensures
-    ∙ sym (ap (λ k. has_key k exe.entry) keys ∙ key_there exe c.args.edges.now c.args.graph.now.nodes exe.entry c.requires.graph)
+    c.is_entry_known-known.ensures c.args.edges.now c.requires.graph ∙ sym (ap (λ k. has_key k exe.entry) keys)
 
 pub layout_of-requires-clause-each : goal.layout_of-requires-clause-each
 layout_of-requires-clause-each c =
@@ -60,7 +61,9 @@ returns-clause-short c =
     let ks = c.as_slice.result.now in
     let keys = c.as_slice.ensures.value ∙ c.in_ok-keys.ensures c.args.edges.now c.requires.graph in
     both c.layout_of.result (λ l. l ≡ layout_of exe ks) (λ l. code_length l ≤ MAX_CODE) (λ l. IsTooLong exe c.args.edges.now → ⊥)
-    (λ l e s. is_short c.layout_links.ensures exe c.args.edges.now (subst (λ n. n ≤ MAX_CODE) (ap code_length e ∙ ap (λ k. code_length (layout_of exe k)) keys) s))
+    (λ l e s long. let m = (c.layouts_build.ensures.long exe c.args.edges.now).1 long in
+    let n = ap code_length e ∙ ap (λ k. code_length (layout_of exe k)) keys in
+    omega (arith, m, n, s))
     c.layout_of.ensures.layout c.layout_of.ensures.short
 
 pub returns-clause-long : goal.returns-clause-long
@@ -69,5 +72,5 @@ returns-clause-long c =
     let ks = c.as_slice.result.now in
     let keys = c.as_slice.ensures.value ∙ c.in_ok-keys.ensures c.args.edges.now c.requires.graph in
     IfErr-weaker c.layout_of.result (λ e. e ≡ Code → MAX_CODE < code_length (layout_of exe ks)) (λ e. e ≡ Code → IsTooLong exe c.args.edges.now)
-    (λ e long is. is_long c.layout_links.ensures exe c.args.edges.now (subst (λ n. MAX_CODE < n) (ap (λ k. code_length (layout_of exe k)) keys) (long is)))
+    (λ e long is. (c.layouts_build.ensures.long exe c.args.edges.now).0 (subst (λ n. MAX_CODE < n) (ap (λ k. code_length (layout_of exe k)) keys) (long is)))
     c.layout_of.ensures.long
