@@ -191,7 +191,7 @@ fn standing(rt: &HostRuntime, commands: &[Stated<'_>]) -> Result<usize, Fail> {
 }
 
 #[test]
-fn builds_and_listings(rt: HostRuntime) -> Result<(), Fail> {
+fn builds_and_unions(rt: HostRuntime) -> Result<(), Fail> {
     let commands = [
         Stated {
             words: &["build", "N", "E", "T", "U"],
@@ -209,6 +209,14 @@ fn builds_and_listings(rt: HostRuntime) -> Result<(), Fail> {
             stores: &["N"],
             calls: [4, 0, 0, 1],
         },
+    ];
+    assert_eq!(rt; standing(&rt, &commands)?, commands.len());
+    Ok(())
+}
+
+#[test]
+fn listings(rt: HostRuntime) -> Result<(), Fail> {
+    let commands = [
         Stated {
             words: &["show", "E", "T"],
             input: b"",
@@ -225,6 +233,14 @@ fn builds_and_listings(rt: HostRuntime) -> Result<(), Fail> {
             stores: &[],
             calls: [1, 0, 0, 1],
         },
+    ];
+    assert_eq!(rt; standing(&rt, &commands)?, commands.len());
+    Ok(())
+}
+
+#[test]
+fn refusals(rt: HostRuntime) -> Result<(), Fail> {
+    let commands = [
         Stated {
             words: &["build", "N", "T"],
             input: b"",
