@@ -61,7 +61,7 @@ found_code exe at i n e = decide (is_exec at exe.segments) e
 -- ---- ends
 
 -- the only label of a copy
-abbrev Own : ℕ → Type 0
+abbrev pub Own : ℕ → Type 0
 Own l = l ≡ 1
 
 plain : (is : List Item) (n : ℕ) → Part NoLabel is n → Part Own is n
@@ -141,17 +141,46 @@ own_part exe p l =
     let n = length-take p.size (code_at p.at exe.segments) in
     at_most NoLabel (own_items exe p) (length bs + 10) 25 (omega (arith, n, l)) (behind NoLabel (map item.Byte bs) (df_items p.inst) (length bs) 10 (bytes_part bs) (df_part p.inst))
 
+-- with room for so many instructions from an address on
+abbrev pub Room : Exe → Around → ℕ → ℕ → Type 0
+Room exe a room at = Part Own (to_come exe a room at) (25 * room + 240)
+
+module _ (exe : Exe) (a : Around) where
+  pub none_room : (room at : ℕ) → 0 < room → None ≡ inst_found (found_at exe at) → Room exe a room at
+  none_room room at l e =
+      let jump = item.Jump None (dests.Original at) ∷ [] in
+      part_as Own (to_come exe a room at) jump (25 * room + 240) (none_come exe a room at l e)
+      (at_most Own jump 6 (25 * room + 240) (omega (arith, l)) (jump_then Own None (dests.Original at) [] 0 tt (nothing Own)))
+
+  pub full_room : (room at : ℕ) → room ≡ 0 → Room exe a room at
+  full_room room at e =
+      part_as Own (to_come exe a room at) (part a at) (25 * room + 240) (full_come exe a room at e)
+      (at_most Own (part a at) 107 (25 * room + 240) (omega arith) (plain (part a at) 107 (way a at)))
+
+  pub own_room : (room less at n : ℕ) (i : Inst) → room ≡ suc less → n ≤ 15
+      → to_come exe a room at ≡ own_items exe (record { at = at; inst = i; size = n }) ++ to_come exe a less (at + n)
+      → Room exe a less (at + n) → Room exe a room at
+  own_room room less at n i e l same rest =
+      let own = own_items exe (record { at = at; inst = i; size = n }) in
+      part_as Own (to_come exe a room at) (own ++ to_come exe a less (at + n)) (25 * room + 240) same
+      (at_most Own (own ++ to_come exe a less (at + n)) (25 + (25 * less + 240)) (25 * room + 240) (omega (arith, e))
+      (behind Own own (to_come exe a less (at + n)) 25 (25 * less + 240) (own_part exe (record { at = at; inst = i; size = n }) l) rest))
+
+  pub last_room : (room at next : ℕ) (i : Inst) → 0 < room → next < 2 ^ 32 → IsTrue (valid_of i) → to_come exe a room at ≡ end_by a i next → Room exe a room at
+  last_room room at next i l low valid same =
+      part_as Own (to_come exe a room at) (end_by a i next) (25 * room + 240) same
+      (at_most Own (end_by a i next) 240 (25 * room + 240) (omega arith) (end_part a i next low valid))
+
+  pub room_linkable : (room x : ℕ) → room ≡ 64 → Room exe a room x → AreLinkable (copy_of exe a x) 2048
+  room_linkable room x e r =
+      let p = part_as Own (copy_of exe a x) (to_come exe a room x) (25 * room + 240) (whole_copy exe a x room e) r in
+      record { valid = p.valid; distinct = p.distinct; size = omega (arith, p.size, e) }
+
 module _ (lengths : (bs : List ℕ) (i : Inst) (n : ℕ) → decode_of bs ≡ Some (i, n) → (1 ≤ n) × (n ≤ 15) × (n ≤ length bs))
     (valid : (bs : List ℕ) (i : Inst) (n : ℕ) → All (λ b. b < 256) bs → decode_of bs ≡ Some (i, n) → IsTrue (valid_of i))
     (exe : Exe) (a : Around) (bytes : HoldBytes (map region_of exe.segments)) where
-  module _ (less at : ℕ) (rest : (to : ℕ) → Part Own (to_come exe a less to) (25 * less + 240)) where
-    none : None ≡ inst_found (found_at exe at) → Part Own (to_come exe a (suc less) at) (25 * suc less + 240)
-    none e =
-        let jump = item.Jump None (dests.Original at) ∷ [] in
-        part_as Own (to_come exe a (suc less) at) jump (25 * suc less + 240) (none_come exe a (suc less) at (omega arith) e)
-        (at_most Own jump 6 (25 * suc less + 240) (omega arith) (jump_then Own None (dests.Original at) [] 0 tt (nothing Own)))
-
-    some : (i : Inst) (n : ℕ) → found_at exe at ≡ There i n → Part Own (to_come exe a (suc less) at) (25 * suc less + 240)
+  module _ (less at : ℕ) (rest : (to : ℕ) → Room exe a less to) where
+    some : (i : Inst) (n : ℕ) → found_at exe at ≡ There i n → Room exe a (suc less) at
     some i n e = by (kind_of i) refl
       where
         code : ◌≡◌ {A = Option (Inst × ℕ)} (decode_of (code_at at exe.segments)) (Some (i, n))
@@ -160,43 +189,29 @@ module _ (lengths : (bs : List ℕ) (i : Inst) (n : ℕ) → decode_of bs ≡ So
         is : Some (i, n) ≡ inst_found (found_at exe at)
         is = sym (ap inst_found e)
 
-        own : List Item
-        own = own_items exe (record { at = at; inst = i; size = n })
-
-        copied : to_come exe a (suc less) at ≡ own_items exe (record { at = at; inst = i; size = n }) ++ to_come exe a less (at + n) → Part Own (to_come exe a (suc less) at) (25 * suc less + 240)
-        copied same =
-            let own = own_items exe (record { at = at; inst = i; size = n }) in
-            let l = lengths (code_at at exe.segments) i n code in
-            part_as Own (to_come exe a (suc less) at) (own ++ to_come exe a less (at + n)) (25 * suc less + 240) same
-            (at_most Own (own ++ to_come exe a less (at + n)) (25 + (25 * less + 240)) (25 * suc less + 240) (omega arith)
-            (behind Own own (to_come exe a less (at + n)) 25 (25 * less + 240) (own_part exe (record { at = at; inst = i; size = n }) l.1) (rest (at + n))))
+        copied : to_come exe a (suc less) at ≡ own_items exe (record { at = at; inst = i; size = n }) ++ to_come exe a less (at + n) → Room exe a (suc less) at
+        copied same = own_room exe a (suc less) less at n i refl (lengths (code_at at exe.segments) i n code).1 same (rest (at + n))
 
         wrapped : (x : ℕ) → wrap x < 2 ^ 32
         wrapped x = omega arith
 
-        by : (k : Kind) → kind_of i ≡ k → Part Own (to_come exe a (suc less) at) (25 * suc less + 240)
+        by : (k : Kind) → kind_of i ≡ k → Room exe a (suc less) at
         by kinds.Plain k = copied (plain_comes exe a (suc less) less at refl i n is k)
         by kinds.Island k = copied (island_comes exe a (suc less) less at refl i n is k)
         by kinds.Transfer k =
-            let last = end_by a i (wrap (at + n)) in
-            part_as Own (to_come exe a (suc less) at) last (25 * suc less + 240) (transfer_ends exe a (suc less) less at refl i n is k)
-            (at_most Own last 240 (25 * suc less + 240) (omega arith) (end_part a i (wrap (at + n)) (wrapped (at + n)) (valid (code_at at exe.segments) i n (code_bytes at exe.segments bytes) code)))
+            last_room exe a (suc less) at (wrap (at + n)) i (omega arith) (wrapped (at + n))
+            (valid (code_at at exe.segments) i n (code_bytes at exe.segments bytes) code) (transfer_ends exe a (suc less) less at refl i n is k)
 
-    more : (f : Found) → found_at exe at ≡ f → Part Own (to_come exe a (suc less) at) (25 * suc less + 240)
-    more NoCode e = none (sym (ap inst_found e))
-    more NoInst e = none (sym (ap inst_found e))
+    more : (f : Found) → found_at exe at ≡ f → Room exe a (suc less) at
+    more NoCode e = none_room exe a (suc less) at (omega arith) (sym (ap inst_found e))
+    more NoInst e = none_room exe a (suc less) at (omega arith) (sym (ap inst_found e))
     more (There i n) e = some i n e
 
-  whole : (room at : ℕ) → Part Own (to_come exe a room at) (25 * room + 240)
-  whole zero at = part_as Own (to_come exe a 0 at) (part a at) (25 * 0 + 240) (full_come exe a 0 at refl) (at_most Own (part a at) 107 (25 * 0 + 240) (omega arith) (plain (part a at) 107 (way a at)))
+  whole : (room at : ℕ) → Room exe a room at
+  whole zero at = full_room exe a 0 at refl
   whole (suc less) at = more less at (whole less) (found_at exe at) refl
-
-  linkable : (x : ℕ) → AreLinkable (copy_of exe a x) 2048
-  linkable x =
-      let p = part_as Own (copy_of exe a x) (to_come exe a 64 x) (25 * 64 + 240) (whole_copy exe a x 64 refl) (whole 64 x) in
-      record { valid = p.valid; distinct = p.distinct; size = omega (arith, p.size) }
 
 pub copies_linkable : ((bs : List ℕ) (i : Inst) (n : ℕ) → decode_of bs ≡ Some (i, n) → (1 ≤ n) × (n ≤ 15) × (n ≤ length bs))
     → ((bs : List ℕ) (i : Inst) (n : ℕ) → All (λ b. b < 256) bs → decode_of bs ≡ Some (i, n) → IsTrue (valid_of i))
     → CopiesAreLinkable
-copies_linkable lengths valid exe a x bytes = linkable lengths valid exe a bytes x
+copies_linkable lengths valid exe a x bytes = room_linkable exe a 64 x refl (whole lengths valid exe a bytes 64 x)

@@ -4,6 +4,7 @@ ghost use Rattle.std.specs.List.Sorted.{IsStrictlyIncreasing};
 ghost use Rattle.elf_read.specs.Elf.{IsGuest};
 ghost use Rattle.ia_encode.specs.declared.item.Item.TheVariants as item;
 ghost use Rattle.fall_stubs.specs.Exchange.{Grew};
+ghost use Rattle.cold_code.specs.Linkable.{AreLinkable};
 ghost use Rattle.cold_code.specs.Copies.{by_blocks, df_items, copy_of, copy_items};
 ghost use Rattle.cold_code.specs.Around.{around, AreAscending};
 
@@ -48,6 +49,7 @@ fn put_copy(p: &mut Piece, exe: &Exe, start: u32, starts: &Starts) -> Result<(),
     requires starts { AreAscending starts.now }
     ensures ok { OnOk result (p.new ≡ p.old ++ copy_of exe.now (around starts.now) start) }
     ensures err { OnErr result (Grew p.old p.new (copy_of exe.now (around starts.now) start)) }
+    ensures linkable { OnOk result (AreLinkable (copy_of exe.now (around starts.now) start) 2048) }
 {
     let mut at = start;
     let mut count = 0;
@@ -116,6 +118,7 @@ pub fn linked_copy(
     requires cold { IsStrictlyIncreasing cold.now }
     ensures ok { OnOk result (p.new ≡ p.old ++ copy_of exe.now (by_blocks starts.now cold.now) start) }
     ensures err { OnErr result (Grew p.old p.new (copy_of exe.now (by_blocks starts.now cold.now) start)) }
+    ensures linkable { OnOk result (AreLinkable (copy_of exe.now (by_blocks starts.now cold.now) start) 2048) }
 {
     let around = Starts {
         blocks: starts,

@@ -8,6 +8,7 @@ use Rattle.cold_code.specs.Around.{around}
 use Rattle.cold_code.specs.Copies.{part, end_by, df_items, own_items, copy_of}
 use Rattle.cold_code.proofs.Upto.{upto_none, upto_as, upto_more, upto_ok, upto_grew, upto_same, upto_grew_part, grew_as}
 use Rattle.cold_code.proofs.Walking.{to_come, whole_copy, none_come, full_come, plain_comes, island_comes, transfer_comes, own_read}
+use Rattle.cold_code.proofs.CopyCode.{none_room, full_room, own_room, last_room, room_linkable}
 use Rattle.cold_code.proofs.copies.put_copy.Goals as goal
 
 pub loop-count-init : goal.loop-count-init
@@ -19,6 +20,7 @@ loop-count-init c =
     record {
       few = omega arith;
       upto = upto_as old old all all (to_come exe a (64 - 0) c.args.start) (upto_none old all) (whole_copy exe a c.args.start (64 - 0) (omega arith));
+      linkable = room_linkable exe a (64 - 0) c.args.start (omega arith);
     }
 
 pub returns-in_default-clause-ok : goal.returns-in_default-clause-ok
@@ -134,4 +136,33 @@ loop-count-preserved c =
     record {
       few = omega arith;
       upto = upto_more old c.loop-count.p c.put_own.new.p all own (to_come exe a less (at + n)) u (c.in_ok-put_own-in-Plain.ensures.ok ∙ ap (λ x. c.loop-count.p ++ x) (own_read exe at n i c.in-Some.here.bytes c.in-Some.ensures.bytes));
+      linkable = λ rest. c.loop-count.invariant.linkable (own_room exe a room less at n i (omega arith) c.in-Some.ensures.short come rest);
     }
+
+pub returns-in_default-clause-linkable : goal.returns-in_default-clause-linkable
+returns-in_default-clause-linkable c =
+    let exe = c.args.exe.now in
+    let a = around c.args.starts.now in
+    let room = 64 - c.loop-count.count in
+    let found = sym (ap (option_map (λ (s : Spelled). (s.inst, s.len))) c.in_default.is) ∙ c.instruction_at.ensures.inst in
+    goes_on _ c.jump.ensures.ok (λ h. c.loop-count.invariant.linkable (none_room exe a room c.loop-count.at (omega arith) found))
+
+pub returns-in-Transfer-clause-linkable : goal.returns-in-Transfer-clause-linkable
+returns-in-Transfer-clause-linkable c =
+    let exe = c.args.exe.now in
+    let a = around c.args.starts.now in
+    let room = 64 - c.loop-count.count in
+    let at = c.loop-count.at in
+    let i = c.in-Some.here.inst in
+    let n = c.in-Some.here.len in
+    let found = sym (ap (option_map (λ (s : Spelled). (s.inst, s.len))) c.in-Some.is) ∙ c.instruction_at.ensures.inst in
+    let inside = c.in-Some.ensures.inside in
+    let come = transfer_comes exe a room (63 - c.loop-count.count) at (omega arith) i n found (omega (arith, inside)) (sym c.kind.ensures ∙ c.in-Transfer.is) in
+    goes_on _ c.put_end.ensures.ok (λ h. c.loop-count.invariant.linkable (last_room exe a room at (at + n) i (omega arith) (omega (arith, inside)) c.in-Some.ensures.valid come))
+
+pub returns-clause-linkable : goal.returns-clause-linkable
+returns-clause-linkable c =
+    let exe = c.args.exe.now in
+    let a = around c.args.starts.now in
+    let room = 64 - c.loop-count.count in
+    goes_on _ c.part.ensures.ok (λ h. c.loop-count.invariant.linkable (full_room exe a room c.loop-count.at (omega arith)))

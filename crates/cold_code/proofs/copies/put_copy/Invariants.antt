@@ -1,4 +1,6 @@
 use Rattle.std.proofs.Common.{◌-◌, ◌≤◌}
+use Rattle.cold_code.specs.Linkable.{AreLinkable}
+use Rattle.cold_code.proofs.CopyCode.{Room}
 use Rattle.cold_code.specs.Around.{around}
 use Rattle.cold_code.specs.Copies.{copy_of}
 use Rattle.cold_code.proofs.Upto.{Upto}
@@ -9,6 +11,7 @@ abbrev pub invariant-loop-count : goal.invariant-loop-count
 invariant-loop-count l = record {
   few : l.count ≤ 64;
   upto : Upto l.fn.p l.p (copy_of l.exe (around l.starts) l.start) (to_come l.exe (around l.starts) (64 - l.count) l.at);
+  linkable : Room l.exe (around l.starts) (64 - l.count) l.at → AreLinkable (copy_of l.exe (around l.starts) l.start) 2048;
 }
 
 abbrev pub decreases-loop-count : goal.decreases-loop-count
