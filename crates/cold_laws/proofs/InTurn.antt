@@ -1,5 +1,5 @@
 -- Each turn of a copy, from the laws of one instruction.
-use Rattle.std.proofs.Common.{◌≡◌, ℕ, zero, suc, ◌+◌, ◌-◌, ◌<◌, ◌≤◌, Bool, true, false, List, [], ◌||◌, refl, sym, ap, ◌∙◌, subst, arith, ⊎_elim, ◌⊎◌, inl, inr}
+use Rattle.std.proofs.Common.{◌≡◌, ℕ, zero, suc, ◌+◌, ◌-◌, ◌<◌, ◌≤◌, Bool, true, false, List, [], ◌||◌, refl, sym, ap, ◌∙◌, subst, arith, ⊎_elim, ◌⊎◌, inl, inr, None}
 use Rattle.std.proofs.lemmas.Bool.{cases_lt, true≢false}
 use Rattle.std.specs.Prelude.{length}
 use Rattle.par_moves.specs.Homes.{register_homes}
@@ -8,13 +8,13 @@ use Rattle.ia_encode.specs.declared.item.Dest.TheVariants as dests
 use Rattle.ia_encode.specs.Items.{Stands}
 use Rattle.br_word.specs.State.{State, RunState, Running, Exited, Faulted}
 use Rattle.elf_read.specs.declared.exe.Exe.{Exe}
-use Rattle.elf_read.specs.Elf.{is_exec}
 use Rattle.ia_inst.specs.declared.inst.Kind.TheVariants as kinds
 use Rattle.ia_inst.specs.Meaning.{wrap}
 use Rattle.ia_inst.specs.System.{On}
-use Rattle.ia_inst.specs.Step.{There, result_at, step, IsWellDefined}
+use Rattle.ia_inst.specs.Step.{Found, NoCode, NoInst, There, result_at, step, NoFault, IsWellDefined}
 use Rattle.run_model.specs.Run.{Observation, observed, run}
 use Rattle.block_cut.specs.Places.{Placed, found_at}
+use Rattle.block_cut.specs.Blocks.{kind_found}
 use Rattle.block_cut.specs.Transfers.{direct_targets, is_among, is_indirect}
 use Rattle.sim_laws.specs.ByKind.{GoesBy, EachGoesByKind}
 use Rattle.sim_runs.specs.Forward.{after}
@@ -33,6 +33,15 @@ use Rattle.cold_laws.specs.InPlace.{Landed, in_block, in_copy, in_original, Turn
 use Rattle.cold_laws.specs.Ends.{EndsInPlace}
 use Rattle.cold_laws.specs.Turns.{Leads_on, Stood, Ended, CopiesStand, CopiesTurn, Reentry, BeyondLands}
 
+-- where nothing is read, no step is well defined
+no_step : (exe : Exe) (s : State) → IsOf exe s → s.stop ≡ Running → kind_found (found_at exe s.eip) ≡ None → IsWellDefined s → ⊥
+no_step exe s h r n w = by (found_at exe s.eip) n (subst (λ f. NoFault (result_at f s 0)) (h.state.code s.eip) (w.no_fault r))
+  where
+    by : (f : Found) → kind_found f ≡ None → NoFault (result_at f s 0) → ⊥
+    by NoCode n k = k
+    by NoInst n k = k
+    by (There i m) n k = cc
+
 over_or : (s : State) → (s.stop ≡ Running) ⊎ IsOver s.stop
 over_or s = go s.stop refl
   where
@@ -47,11 +56,11 @@ neither false b e f h = true≢false (sym h ∙ f)
 
 module _ (by_kind : EachGoesByKind) (exe : Exe) (plan : Plan) (copies : Copies) (steps : StepsInPlace) (ends : EndsInPlace) (all : CopiesStand plan copies exe) where
   -- landed, where an address in code is a start or cold
-  closed : (s t : State) → IsOf exe s → s.stop ≡ Running → (is_exec s.eip exe.segments ≡ true → (plan.is_start s.eip || copies.cold s.eip) ≡ true) → Landed plan copies exe s.eip s t → Comes_to plan (IsOf exe) s t
+  closed : (s t : State) → IsOf exe s → s.stop ≡ Running → (IsWellDefined s → (plan.is_start s.eip || copies.cold s.eip) ≡ true) → Landed plan copies exe s.eip s t → Comes_to plan (IsOf exe) s t
   closed s t h r c (in_block b) = to_block s.eip b
   closed s t h r c (in_copy k p) = to_copy (all.cold s.eip ∙ k) (subst (λ at. InPlace plan at s t) (sym (all.copy s.eip 0)) p)
   closed s t h r c (in_original why own size w) = ⊎_elim
-      (λ (n : (plan.is_start s.eip ≡ false) × (copies.cold s.eip ≡ false)). nowhere (λ f. neither _ _ n.0 n.1 (c (runs_in_code exe s h r f))) (ap observed w.same))
+      (λ (n : (plan.is_start s.eip ≡ false) × (copies.cold s.eip ≡ false)). nowhere (λ f. neither _ _ n.0 n.1 (c f)) (ap observed w.same))
       (λ (d : IsWellDefined s → ⊥). nowhere d (ap observed w.same))
       why
 
@@ -105,7 +114,7 @@ module _ (by_kind : EachGoesByKind) (exe : Exe) (plan : Plan) (copies : Copies) 
         to_after e g r u l true i = by_indirect s s1 u r (record { inst = p.inst; len = p.size; here = h.static.state.code s.eip ∙ ap (found_at exe) eip ∙ here; kind = e.kind; indirect = i }) l
         to_after e g r u l false i =
             let there : is_among (direct_targets p.inst p.size p.at) s1.eip ≡ true = subst (λ a. is_among (direct_targets p.inst p.size a) s1.eip ≡ true) eip (sym (ap (λ b. b || is_among (direct_targets p.inst p.size s.eip) s1.eip) i) ∙ g.0) in
-            lands r (closed s1 u next r (λ c. e.landing s1.eip there c) l)
+            lands r (closed s1 u next r (λ f. e.landing s1.eip there (runs_in_code exe s1 next r f)) l)
 
     -- another instruction
     stood : Stood plan copies exe x k p → Turned plan (IsOf exe) 130 s t cs
@@ -119,7 +128,7 @@ module _ (by_kind : EachGoesByKind) (exe : Exe) (plan : Plan) (copies : Copies) 
         let there : InPlace plan e.to s1 (run z.steps t cs) = subst (λ at. InPlace plan at s1 (run z.steps t cs)) a.1 z.next in
         ⊎_elim
         (λ (o : (suc k < plan.copied x) × (e.to ≡ copies.place x (suc k)) × (plan.original x (suc k) ≡ wrap (p.at + p.size))). short z (in_place x (suc k) (record { cold = h.cold; within = o.0; eip = at ∙ sym o.2; goes = r; static = next; stands = subst (λ at. InPlace plan at s1 (run z.steps t cs)) (o.1 ∙ sym (all.copy x (suc k))) there })))
-        (λ (o : Leads_on plan copies exe p e.to). long z (o.goes s1 (run z.steps t cs) (after z.steps cs) next r at there) (λ u l. lands r (closed s1 u next r (λ c. o.closed s1.eip at c) l)))
+        (λ (o : Leads_on plan copies exe p e.to). long z (o.goes s1 (run z.steps t cs) (after z.steps cs) next r at there) (λ u l. lands r (closed s1 u next r (λ f. o.closed s1.eip at (runs_in_code exe s1 next r f) (λ n. no_step exe s1 next r n f)) l)))
         e.on)
         z.stays)
         (λ (o : IsOver s1.stop). short z (stops o (ap observed z.next.wider.same) (low e z)))
@@ -128,7 +137,7 @@ module _ (by_kind : EachGoesByKind) (exe : Exe) (plan : Plan) (copies : Copies) 
         low : (e : Stood plan copies exe x k p) → (z : TurnInPlace plan p (copies.place x k) e.to s t cs) → (run z.steps t cs).eip < 0x07000000
         low e z =
             let q : (run z.steps t cs).eip ≡ z.place = ap (λ (u : State). u.eip) z.next.wider.same in
-            let a = all.low x k in
+            let a = all.low x k h.cold h.within in
             let b = e.low in
             ⊎_elim
             (λ (v : (s1.eip ≡ s.eip) × (z.place ≡ copies.place x k)). let w = v.1 in omega (arith, q, a, w))

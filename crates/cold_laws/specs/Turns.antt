@@ -1,5 +1,5 @@
 -- From the laws of one instruction to the turns that the simulation asks for.
-use Rattle.std.specs.Prelude.{◌≡◌, ◌≢◌, ◌<◌, ◌⊎◌, ◌||◌, ◌^◌, ℕ, suc, ◌+◌, List, IsTrue, true, length}
+use Rattle.std.specs.Prelude.{◌≡◌, ◌≢◌, ◌<◌, ◌⊎◌, ◌||◌, ◌^◌, ℕ, suc, ◌+◌, List, IsTrue, true, length, None}
 use Rattle.ia_encode.specs.declared.item.Dest.TheVariants as dests
 use Rattle.fall_stubs.specs.Exchange.{closing_items}
 use Rattle.sim_runs.specs.Passes.{Gets}
@@ -15,6 +15,7 @@ use Rattle.ia_inst.specs.Step.{There, step, IsWellDefined}
 use Rattle.ia_encode.specs.declared.item.Dest.{Dest}
 use Rattle.ia_encode.specs.Items.{Stands, dest_at}
 use Rattle.block_cut.specs.Places.{Placed, found_at}
+use Rattle.block_cut.specs.Blocks.{kind_found}
 use Rattle.block_cut.specs.Transfers.{direct_targets}
 use Rattle.par_moves.specs.Homes.{register_homes}
 use Rattle.code_laws.specs.Seen.{IsCode}
@@ -27,11 +28,11 @@ use Rattle.cold_code.specs.Copies.{own_items}
 use Rattle.cold_laws.specs.InPlace.{Landed, StepsInPlace}
 use Rattle.cold_laws.specs.Ends.{end_by, goes_cold, AreLanding, AreLow, Dispatches, EndsInPlace}
 
--- behind the last own bytes of a copy that has no transfer: the code there leads on, and the address behind, where it is code, is a start or cold
+-- behind the last own bytes of a copy that has no transfer: the code there leads on, and the address behind, where an instruction is read, is a start or cold
 pub record Leads_on (plan : Plan) (copies : Copies) (exe : Exe) (p : Placed) (to : ℕ) : Type 0 where
   pub goes : (s t : State) (cs : List ℕ) → IsOf exe s → s.stop ≡ Running → s.eip ≡ wrap (p.at + p.size) → InPlace plan to s t
       → Leads (Landed plan copies exe s.eip s) 128 t cs
-  pub closed : (y : ℕ) → y ≡ wrap (p.at + p.size) → is_exec y exe.segments ≡ true → (plan.is_start y || copies.cold y) ≡ true
+  pub closed : (y : ℕ) → y ≡ wrap (p.at + p.size) → is_exec y exe.segments ≡ true → kind_found (found_at exe y) ≢ None → (plan.is_start y || copies.cold y) ≡ true
 
 -- an instruction that is no transfer stands at its place, and behind it the next one or the end
 pub record Stood (plan : Plan) (copies : Copies) (exe : Exe) (x k : ℕ) (p : Placed) : Type 0 where
@@ -63,7 +64,7 @@ pub record CopiesStand (plan : Plan) (copies : Copies) (exe : Exe) : Type 0 wher
   pub copy : (x k : ℕ) → plan.copy x k ≡ copies.place x k
   pub placed : ℕ → ℕ → Placed
   pub at : (x k : ℕ) → (placed x k).at ≡ plan.original x k
-  pub low : (x k : ℕ) → copies.place x k < 0x07000000
+  pub low : (x k : ℕ) → plan.cold x ≡ true → k < plan.copied x → copies.place x k < 0x07000000
   pub found : (x k : ℕ) → plan.cold x ≡ true → k < plan.copied x → found_at exe (placed x k).at ≡ There (placed x k).inst (placed x k).size
   pub stood : (x k : ℕ) → plan.cold x ≡ true → k < plan.copied x
       → Stood plan copies exe x k (placed x k) ⊎ Ended plan copies exe x k (placed x k)
