@@ -1,0 +1,4 @@
+pub mod Lengths
+pub mod Result
+pub mod Together
+pub mod Members

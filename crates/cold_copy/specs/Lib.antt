@@ -1,0 +1,3 @@
+pub mod ColdCode
+pub mod Behind
+pub mod Linking
